@@ -1,0 +1,110 @@
+//! Names of tasks.
+
+ghost use Rattle.std.specs.Prelude.{◌≡◌, ◌≤◌, ◌++◌, ◌-◌, length, replicate};
+ghost use Rattle.std.specs.List.{list_all};
+ghost use Rattle.std.specs.Str.{bytes_eq};
+ghost use Rattle.std.specs.Cmp.{partial_equiv_from_equiv};
+ghost use Rattle.std.specs.Cmp.Lexicographic.{nat_list_eq_equiv};
+ghost use Rattle.dap_bytes.specs.Name.{is_name_char};
+
+use std::marker::Model;
+
+/// The name of a task: 1 to 32 characters out of `a` to `z`, `0` to `9`, `_` and `-`.
+/// Contracts see it as the list of its bytes.
+#[derive(Clone, Copy, Debug)]
+pub struct Name {
+    cells: [u8; Name::MAX_LEN],
+    len: usize,
+}
+
+impl Model for Name {
+    ghost use Rattle.std.specs.Prelude.{List, ℕ, length, take, ◌++◌, ◌-◌, replicate};
+    ghost use Rattle.dap_bytes.specs.Name.{IsFilled, cells_again, used_again};
+
+    ghost Value = { List ℕ };
+
+    ghost view = { λ a. take a.len a.cells };
+
+    ghost invariant = { λ a. IsFilled a.cells a.len };
+
+    ghost inverse = { λ text. record { cells = text ++ replicate (32 - length text) 0; len = length text } };
+
+    ghost inverse_ok = { λ a h i. record { cells = cells_again h i; len = used_again h i } };
+}
+
+impl Name {
+    ghost use Rattle.dap_bytes.specs.Name.{name_of, IsName};
+
+    /// How many characters a name has at most.
+    pub const MAX_LEN: usize = 32;
+
+    /// The name with these bytes. None where they are no name.
+    pub fn new(bytes: &[u8]) -> Option<Name>
+        ensures { result ≡ name_of bytes.now }
+    {
+        if bytes.is_empty() || bytes.len() > Name::MAX_LEN || !are_name_chars(bytes) {
+            return None;
+        }
+        Some(Name {
+            cells: padded(bytes),
+            len: bytes.len(),
+        })
+    }
+
+    /// The name's bytes.
+    pub fn as_bytes(&self) -> &[u8]
+        ensures bytes { result.now ≡ self.now }
+        ensures name { IsName self.now }
+    {
+        &self.cells[..self.len]
+    }
+}
+
+impl PartialEq for Name {
+    ghost eq = { bytes_eq };
+
+    ghost laws = { partial_equiv_from_equiv nat_list_eq_equiv };
+
+    fn eq(&self, other: &Name) -> bool {
+        self.as_bytes() == other.as_bytes()
+    }
+}
+
+impl Eq for Name {
+    ghost laws = { nat_list_eq_equiv };
+}
+
+fn are_name_chars(bytes: &[u8]) -> bool
+    ensures { result ≡ list_all is_name_char bytes.now }
+{
+    bytes.iter().all(|byte| matches!(*byte, b'a'..=b'z' | b'0'..=b'9' | b'_' | b'-'))
+}
+
+/// The bytes, followed by zeros.
+fn padded(bytes: &[u8]) -> [u8; Name::MAX_LEN]
+    requires { length bytes.now ≤ 32 }
+    ensures { result ≡ bytes.now ++ replicate (32 - length bytes.now) 0 }
+{
+    let mut cells = [0; Name::MAX_LEN];
+    cells[..bytes.len()].copy_from_slice(bytes);
+    cells
+}
+
+#[cfg(test)]
+mod tests {
+    use super::Name;
+
+    #[test]
+    fn names_have_1_to_32_of_the_characters(rt: HostRuntime) {
+        let longest = [b'a'; 32];
+        for text in [b"v".as_slice(), b"a-z_09", longest.as_slice()] {
+            let name = Name::new(text).expect(&rt, "a name");
+            assert_eq!(rt; name.as_bytes(), text);
+            assert!(rt; Name::new(text) == Some(name));
+        }
+        let too_long = [b'a'; 33];
+        for text in [b"".as_slice(), b"V", b"a b", b"a.b", too_long.as_slice()] {
+            assert!(rt; Name::new(text).is_none());
+        }
+    }
+}
