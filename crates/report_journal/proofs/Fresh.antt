@@ -1,5 +1,5 @@
 -- Files of one byte at most stand for no records.
-use Rattle.std.proofs.Common.{◌≡◌, ◌⊎◌, inl, inr, ℕ, ◌≤◌, List, [], ◌∷◌, length, take, Option, Some, None, refl, sym, ◌∙◌, ap, subst, arith}
+use Rattle.std.proofs.Common.{◌≡◌, inl, inr, ℕ, ◌≤◌, List, [], ◌∷◌, length, Option, Some, None, refl, sym, ◌∙◌, ap, subst, arith}
 use Rattle.std.proofs.lemmas.List.{nil_from_length}
 use Rattle.dap_disk.specs.Disk.{Tells, of_told, written}
 use Rattle.report_journal.specs.Journal.{blocks, all_records, Stands}
@@ -21,9 +21,12 @@ small_same held c told small e is rs stands = inr (small_none rs e (told e is) s
 pub held_same : (held : Option (List ℕ)) (c : List ℕ) → held ≡ Some c → SameRecords held c
 held_same held c is e now rs stands = let same : e ≡ c = cc (is, now) in subst (Stands rs) same stands
 
--- the first gate stands alone in a file that was empty, or was cut to nothing
-pub first_gate : (old mid new : Option (List ℕ)) → new ≡ of_told (written 0 (0 ∷ [])) mid → (mid ≡ of_told (take 0) old) ⊎ ((mid ≡ old) × Tells old (λ c. length c ≡ 0)) → new ≡ of_told (λ _. 0 ∷ []) old
-first_gate None mid new done (inl cut) = done ∙ ap (of_told (written 0 (0 ∷ []))) cut
-first_gate (Some c) mid new done (inl cut) = done ∙ ap (of_told (written 0 (0 ∷ []))) cut
-first_gate None mid new done (inr same) = done ∙ ap (of_told (written 0 (0 ∷ []))) same.0
-first_gate (Some c) mid new done (inr same) = done ∙ ap (of_told (written 0 (0 ∷ []))) same.0 ∙ ap (λ (l : List ℕ). of_told (written 0 (0 ∷ [])) (Some l)) (nil_from_length c (same.1 c refl))
+-- what is told of an empty file is that it is empty
+pub cleared : (held : Option (List ℕ)) → Tells held (λ c. length c ≡ 0) → held ≡ of_told (λ _. []) held
+cleared None empty = refl
+cleared (Some c) empty = ap Some (nil_from_length c (empty c refl))
+
+-- the first gate stands alone in a file that was cleared
+pub first_gate : (old mid new : Option (List ℕ)) → mid ≡ of_told (λ _. []) old → new ≡ of_told (written 0 (0 ∷ [])) mid → new ≡ of_told (λ _. 0 ∷ []) old
+first_gate None mid new clear done = done ∙ ap (of_told (written 0 (0 ∷ []))) clear
+first_gate (Some c) mid new clear done = done ∙ ap (of_told (written 0 (0 ∷ []))) clear

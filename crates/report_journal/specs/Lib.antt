@@ -2,3 +2,4 @@ pub mod Journal
 pub mod Laws
 pub mod Log
 pub mod Reading
+pub mod Retry

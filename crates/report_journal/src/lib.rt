@@ -10,6 +10,7 @@ mod laws;
 mod log;
 mod moves;
 mod opening;
+mod retry;
 
 pub use block::MAX_BLOCK;
 pub use fault::{AppendFault, LogFault, RestartFault};

@@ -65,11 +65,36 @@ fn read_all<D: Disk>(alloc: Global, disk: &mut D) -> Result<Vec<u8>, LogFault>
     Ok(file)
 }
 
-/// Makes an empty file, or one of the byte 1, a journal without records.
+/// Cuts a file of one byte to nothing, so that its gate can't count with what is written next.
+#[tactic(auto, using(crate::proofs::Fresh::cleared))]
+fn clear<D: Disk>(disk: &mut D, size: usize) -> Result<(), StoreFault>
+    requires up { IsTrue (D.up disk.old) }
+    requires small { size ≤ 1 }
+    requires held { Tells (D.holds disk.old) (λ c. length c ≡ size) }
+    requires synced { Only (D.holds disk.old) (D.may_leave disk.old) }
+    requires images { (c : List ℕ) → D.may_leave disk.old c → length c ≤ 1 }
+    ensures file { OnOk result (D.holds disk.new ≡ of_told (λ _. []) (D.holds disk.old)) }
+    ensures durable { OnOk result (Only (D.holds disk.new) (D.may_leave disk.new)) }
+    ensures up { OnOk result (IsTrue (D.up disk.new)) }
+    ensures images { (c : List ℕ) → D.may_leave disk.new c → length c ≤ 1 }
+    ensures any_moment { LeavesOnly D.moment D.left_since disk.old disk.new (λ c. length c ≤ 1) }
+    ensures memory { IsErrOf result StoreFault.NoMemory → (D.holds disk.new ≡ D.holds disk.old) × IsTrue (D.up disk.new) }
+    ensures counts { (D.downs disk.old ≤ D.downs disk.new) × (D.deads disk.old ≤ D.deads disk.new) }
+    ensures cause { IsErrOf result StoreFault.Down → Rose (D.downs disk.old) (D.downs disk.new) }
+{
+    if size == 0 {
+        return Ok(());
+    }
+    cut_synced(disk, 0)
+}
+
+/// Makes an empty file, or one open gate alone, a journal without records.
+#[tactic(auto, using(crate::proofs::Fresh::first_gate))]
 fn make<D: Disk>(disk: &mut D, size: usize) -> Result<(), StoreFault>
     requires up { IsTrue (D.up disk.old) }
     requires small { size ≤ 1 }
     requires held { Tells (D.holds disk.old) (λ c. length c ≡ size) }
+    requires synced { Only (D.holds disk.old) (D.may_leave disk.old) }
     requires images { (c : List ℕ) → D.may_leave disk.old c → length c ≤ 1 }
     ensures held { OnOk result (Tells (D.holds disk.new) (Closed [] 0)) }
     ensures file { OnOk result (D.holds disk.new ≡ of_told (λ _. 0 ∷ []) (D.holds disk.old)) }
@@ -80,9 +105,7 @@ fn make<D: Disk>(disk: &mut D, size: usize) -> Result<(), StoreFault>
     ensures counts { (D.downs disk.old ≤ D.downs disk.new) × (D.deads disk.old ≤ D.deads disk.new) }
     ensures cause { IsErrOf result StoreFault.Down → Rose (D.downs disk.old) (D.downs disk.new) }
 {
-    if size > 0 {
-        cut_synced(disk, 0)?;
-    }
+    clear(disk, size)?;
     write_synced(disk, 0, &[0])?;
     Ok(())
 }

@@ -1,4 +1,4 @@
-use Rattle.std.proofs.Common.{length, take, drop, sym, ◌∙◌, arith}
+use Rattle.std.proofs.Common.{take, drop, sym, ◌∙◌, arith}
 use Rattle.std.proofs.lemmas.Result.{on_ok_weaker}
 use Rattle.dap_disk.specs.Runs.{weaker}
 use Rattle.report_journal.specs.Journal.{Closed, Either}

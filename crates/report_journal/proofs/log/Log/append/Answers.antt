@@ -1,4 +1,4 @@
-use Rattle.std.proofs.Common.{◌≡◌, ◌⊎◌, ◌++◌, ℕ, ◌+◌, List, [], ◌∷◌, Some, ap, ◌∙◌, subst, arith}
+use Rattle.std.proofs.Common.{◌≡◌, ◌⊎◌, ◌++◌, ℕ, ◌+◌, List, [], ◌∷◌, Some, ap, ◌∙◌, subst}
 use Rattle.dap_disk.specs.Disk.{LeavesOnly, of_told, written}
 use Rattle.report_journal.specs.Journal.{Closed, Stands, with_block}
 use Rattle.report_journal.specs.Log.{contents, LogView}
