@@ -1,0 +1,7 @@
+pub mod Modulo
+pub mod Solve
+pub mod Powers
+pub mod Compute
+pub mod Orders
+pub mod Spelling
+pub mod Vectors
