@@ -4,7 +4,7 @@ use Rattle.std.proofs.Math.Nat.{pow-suc, pow-zero, one-mul, mod-mod}
 use Rattle.std.proofs.lemmas.Nat.{pow-add}
 use Rattle.field_laws.specs.Ring.{Ring, RingLaws, RootLaws, power}
 use Rattle.field_laws.specs.Residues.{Residues, residue_ring}
-use Rattle.field_laws.proofs.Modulo.{same_residue, residue_ring_laws, residue-mul}
+use Rattle.field_laws.proofs.Modulo.{same_residue, residue_ring_laws, residue-mul, residue-add, number-small}
 use Rattle.field_laws.proofs.Powers.{power-zero, power-one, power-add, power-mul, power-double, power-two}
 use Rattle.field_laws.proofs.Solve.{cancel, mul-nought}
 
@@ -66,3 +66,15 @@ module _ {F : Type 0} {ring : Ring F} (laws : RingLaws ring) where
 
       after : (n : ℕ) → n < k → 2 ^ (k - n) ≡ 2 ^ (k - (n + 1)) * 2
       after n small = ap (λ i. 2 ^ i) (let e : k - n ≡ suc (k - (n + 1)) = omega arith in e) ∙ pow-suc 2 (k - (n + 1))
+
+module _ {F : Type 0} {p : ℕ} {number : F → ℕ} {residue : ℕ → F} (laws : Residues p number residue) where
+  -- what a generator's order rests on: its power that was computed modulo p is p - 1
+  pub power_turns : (f x e h : ℕ) → e * h < 2 ^ f → power_modulo p x f (e * h) ≡ p - 1
+      → power (residue_ring p number residue) (power (residue_ring p number residue) (residue x) e) h ≡ (residue_ring p number residue).neg (residue_ring p number residue).unit
+  power_turns f x e h fits computed =
+      sym (power-mul (residue_ring_laws laws) (residue x) e h) ∙ residue-power laws f x (e * h) fits ∙ ap residue computed
+      ∙ ap (λ n. residue (p - n)) (sym (number-small laws 1 laws.large))
+
+  -- half doubled is one, as computed modulo p
+  pub half_doubled : (h : ℕ) → (h + h) % p ≡ 1 % p → (residue_ring p number residue).add (residue h) (residue h) ≡ (residue_ring p number residue).unit
+  half_doubled h computed = residue-add laws h h ∙ same_residue laws (h + h) 1 computed

@@ -4,4 +4,5 @@ pub mod Powers
 pub mod Compute
 pub mod Orders
 pub mod Spelling
+pub mod DoublingSteps
 pub mod Vectors

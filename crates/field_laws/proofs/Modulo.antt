@@ -23,6 +23,10 @@ module _ {F : Type 0} {p : ℕ} {number : F → ℕ} {residue : ℕ → F} (laws
   pub residue-mul : (m n : ℕ) → residue (number (residue m) * number (residue n)) ≡ residue (m * n)
   residue-mul m n = same_residue _ _ (ap (λ x. (x * number (residue n)) % p) (laws.number-residue m) ∙ mul-mod_first m _ p ∙ ap (λ x. (m * x) % p) (laws.number-residue n) ∙ mul-mod_second m n p)
 
+  -- the ring's sum of two numbers' residues, and the residues that are its nought and unit
+  pub residue-plus : {ring : Ring F} → ring ≡ residue_ring p number residue → (m n : ℕ) → ring.add (residue m) (residue n) ≡ residue (m + n)
+  residue-plus is_ring m n = ap (λ r. r.add (residue m) (residue n)) is_ring ∙ residue-add m n
+
   left_add : (m n : ℕ) → residue (number (residue m) + n) ≡ residue (m + n)
   left_add m n = same_residue _ _ (ap (λ x. (x + n) % p) (laws.number-residue m) ∙ mod-add-mod m p n)
 
@@ -76,12 +80,3 @@ half_number p h large below one =
       | inl small ↦ absurd (let e : h + h ≡ 1 = sym (mod-eq_of_lt small) ∙ one in omega arith)
       | inr over ↦ let e : h + h - p ≡ 1 = sym (mod-eq_of_lt (let k : h + h - p < p = omega arith in k)) ∙ sym (mod-eq-sub-mod over) ∙ one in omega arith
     ]
-
--- a step of a product by doubling
-pub double_even : (p s a k : ℕ) → (s + ((a + a) % p) * k) % p ≡ (s + a * (2 * k)) % p
-double_even p s a k =
-    sym (add-mod-mod s _ p) ∙ ap (λ x. (s + x) % p) (mul-mod_first (a + a) k p) ∙ add-mod-mod s _ p ∙ ap (λ x. x % p) (let e : s + (a + a) * k ≡ s + a * (2 * k) = omega arith in e)
-
-pub double_odd : (p s a k : ℕ) → ((s + a) % p + ((a + a) % p) * k) % p ≡ (s + a * (2 * k + 1)) % p
-double_odd p s a k =
-    mod-add-mod (s + a) p _ ∙ double_even p (s + a) a k ∙ ap (λ x. x % p) (let e : (s + a) + a * (2 * k) ≡ s + a * (2 * k + 1) = omega arith in e)

@@ -5,10 +5,12 @@
 //! `Field`, `add_all` and, in proofs, the laws and the ring solver of proofs/Solve.antt.
 #![tactic(auto)]
 
+mod doubling;
 mod element;
 mod laws;
 mod vector;
 
+pub use doubling::multiply_by_doubling;
 pub use element::Field;
 pub use laws::{
     bytes_spell_elements, elements_are_their_numbers, halves_make_one, results_are_modular,
