@@ -1,10 +1,24 @@
-//! The small types that both servers' messages, records and scripts are made of: so far names and identifiers.
-//! The layers above see a name as the list of its bytes, which is always a well-formed one.
+//! The small types that both servers' messages, records and scripts are made of: names and identifiers, byte
+//! strings and texts, the two nodes with their parts, and numbers as big-endian bytes. The layers above see a name,
+//! a byte string and a text as the list of its bytes, and write numbers with `put_u8` to `put_u64`.
 #![tactic(auto)]
 
+mod bytes;
 mod name;
+mod node;
+mod numbers;
+mod part;
+mod text;
 
+pub use bytes::Bytes;
 pub use name::Name;
+pub use node::Node;
+pub use numbers::{put_u8, put_u16, put_u32, put_u64};
+pub use part::Part;
+pub use text::Text;
 
 /// What tells a report from the others of its task: 16 bytes that its client drew.
 pub type Id = [u8; 16];
+
+#[cfg(test)]
+mod tests;

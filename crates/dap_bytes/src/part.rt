@@ -1,0 +1,20 @@
+//! The parts of a node.
+
+use std::fmt;
+
+/// A part of a node that keeps a journal of its own: its front, or the lane of a number.
+/// It prints as `front` or `lane N`.
+#[derive(Clone, Copy, Debug, PartialEq, Eq)]
+pub enum Part {
+    Front,
+    Lane(u8),
+}
+
+impl fmt::Display for Part {
+    fn fmt<W: fmt::Write>(&self, f: &mut fmt::Formatter<W>) -> fmt::Result {
+        match self {
+            Part::Front => f.write_str("front"),
+            Part::Lane(lane) => write!(f, "lane {lane}"),
+        }
+    }
+}

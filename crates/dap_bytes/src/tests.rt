@@ -1,0 +1,49 @@
+use super::*;
+use std::test::Fail;
+
+#[test]
+fn numbers_are_written_with_the_most_significant_byte_first(rt: HostRuntime) -> Result<(), Fail> {
+    let mut out = Vec::new(rt.alloc());
+    put_u8(&mut out, 0x12)?;
+    put_u16(&mut out, 0x3456)?;
+    put_u32(&mut out, 0x789a_bcde)?;
+    put_u64(&mut out, 0xf012_3456_789a_bcde)?;
+    let want = [
+        0x12, 0x34, 0x56, 0x78, 0x9a, 0xbc, 0xde, 0xf0, 0x12, 0x34, 0x56, 0x78, 0x9a, 0xbc, 0xde,
+    ];
+    assert_eq!(rt; out.as_slice(), want.as_slice());
+    Ok(())
+}
+
+#[test]
+fn nodes_and_parts_print_as_the_statuses_name_them(rt: HostRuntime) -> Result<(), Fail> {
+    let alloc = rt.alloc();
+    for (node, part, want) in [
+        (Node::Leader, Part::Front, "leader front"),
+        (Node::Helper, Part::Lane(0), "helper lane 0"),
+        (Node::Helper, Part::Lane(15), "helper lane 15"),
+    ] {
+        let text = format!(in alloc; "{node} {part}")?;
+        assert_eq!(rt; text.as_str(), want);
+    }
+    Ok(())
+}
+
+#[test]
+fn bytes_and_texts_give_back_what_they_were_made_of(rt: HostRuntime) -> Result<(), Fail> {
+    let alloc = rt.alloc();
+    let bytes = Bytes::new([1, 2, 3].to_vec(alloc)?);
+    let same = bytes.clone()?;
+    assert!(rt; bytes == same);
+    assert!(rt; bytes != Bytes::new(Vec::new(alloc)));
+    assert_eq!(rt; (bytes.len(), bytes.is_empty()), (3, false));
+    assert_eq!(rt; same.into_vec().as_slice(), [1, 2, 3].as_slice());
+    let text = Text::new(format!(in alloc; "né")?);
+    let same = text.clone()?;
+    assert!(rt; text == same);
+    assert_eq!(rt; text.as_slice(), [b'n', 0xc3, 0xa9].as_slice());
+    let printed = format!(in alloc; "<{text}>")?;
+    assert_eq!(rt; printed.as_str(), "<né>");
+    assert_eq!(rt; same.into_string().as_str(), "né");
+    Ok(())
+}

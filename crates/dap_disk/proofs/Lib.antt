@@ -1,0 +1,3 @@
+pub mod Calls
+pub mod Pushes
+pub mod Rules

@@ -1,0 +1,53 @@
+-- What the calls of a disk do to the bytes that it holds, and what a stop may leave of them.
+use Rattle.std.specs.Prelude.{◌≡◌, ◌⊎◌, ℕ, ◌+◌, ◌≤◌, min, max, List, ◌++◌, length, take, drop, Option, Some, None}
+
+-- P of what is told, where it is told
+abbrev pub Tells : Option (List ℕ) → (List ℕ → Type 0) → Type 0
+Tells held P = (c : List ℕ) → held ≡ Some c → P c
+
+-- f of what is told, where it is told
+abbrev pub of_told : (List ℕ → List ℕ) → Option (List ℕ) → Option (List ℕ)
+of_told f None = None
+of_told f (Some c) = Some (f c)
+
+-- with these bytes from this place on
+abbrev pub written : ℕ → List ℕ → List ℕ → List ℕ
+written at bytes c = take at c ++ (bytes ++ drop (at + length bytes) c)
+
+-- What a stop may make of an image by a write of n bytes: any bytes in the range and past the old end, any length up to the new one.
+pub record Torn (at n : ℕ) (old new : List ℕ) : Type 0 where
+  pub before : take at new ≡ take at old
+  pub after : drop (at + n) new ≡ drop (at + n) old
+  pub no_shorter : length old ≤ length new
+  pub no_longer : length new ≤ max (length old) (at + n)
+
+-- What a stop may make of an image by a cut: any length down to the new one, any bytes past it.
+pub record Shortened (len : ℕ) (old new : List ℕ) : Type 0 where
+  pub front : take len new ≡ take len old
+  pub no_shorter : min len (length old) ≤ length new
+  pub no_longer : length new ≤ length old
+
+-- each new image is an old one after a step
+abbrev pub Follows : (List ℕ → List ℕ → Type 0) → (List ℕ → Type 0) → (List ℕ → Type 0) → Type 0
+Follows step old new = (c : List ℕ) → new c → (d : List ℕ) × old d × step d c
+
+-- no image is new
+abbrev pub NoMore : (List ℕ → Type 0) → (List ℕ → Type 0) → Type 0
+NoMore old new = (c : List ℕ) → new c → old c
+
+-- each image is what is held, which is then told
+abbrev pub Only : Option (List ℕ) → (List ℕ → Type 0) → Type 0
+Only held images = (c : List ℕ) → images c → held ≡ Some c
+
+-- A call adds one moment: what a stop since t might have left is what it might have left before the call, or may leave now.
+pub record Elapses (before now : ℕ) (past since : ℕ → List ℕ → Type 0) (may_leave : List ℕ → Type 0) : Type 0 where
+  pub later : before ≤ now
+  pub nothing_else : (t : ℕ) (c : List ℕ) → t ≤ before → since t c → past t c ⊎ may_leave c
+  pub keeps : (t : ℕ) (c : List ℕ) → t ≤ before → past t c → since t c
+
+-- at every moment since old each image has P
+pub record LeavesOnly {D : Type 0} (moment : D → ℕ) (left_since : D → ℕ → List ℕ → Type 0) (old new : D) (P : List ℕ → Type 0) : Type 0 where
+  pub later : moment old ≤ moment new
+  pub each : (c : List ℕ) → left_since new (moment old) c → P c
+  -- for a run that began earlier
+  pub before : (t : ℕ) (c : List ℕ) → t ≤ moment old → left_since new t c → left_since old t c ⊎ P c

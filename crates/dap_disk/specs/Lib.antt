@@ -1,0 +1,9 @@
+pub mod Disk
+pub mod History
+pub mod HistoryLaws
+pub mod ImageLaws
+pub mod Images
+pub mod Plan
+pub mod Runs
+pub mod Steps
+pub mod StoreLaws

@@ -1,0 +1,44 @@
+//! A change and a sync, as one step.
+ghost use Rattle.std.specs.Prelude.{◌≡◌, ◌≤◌, ◌<◌, ◌+◌, List, ℕ, length, take, OnOk, IsErrOf, IsTrue};
+ghost use Rattle.dap_bytes.specs.Causes.{Rose};
+ghost use Rattle.dap_disk.specs.Disk.{Tells, of_told, written, Torn, Shortened, Follows, NoMore, Only, LeavesOnly};
+
+use crate::{Disk, StoreFault};
+
+/// Writes and syncs. At every moment of the call an image is one from before it, torn by this write at most. After
+/// `NoMemory` nothing has changed.
+pub fn write_synced<D: Disk>(disk: &mut D, at: u64, bytes: &[u8]) -> Result<(), StoreFault>
+    requires up { IsTrue (D.up disk.old) }
+    requires within { Tells (D.holds disk.old) (λ c. at ≤ length c) }
+    ensures done { OnOk result (D.holds disk.new ≡ of_told (written at bytes.now) (D.holds disk.old)) }
+    ensures durable { OnOk result (Only (D.holds disk.new) (D.may_leave disk.new)) }
+    ensures images { Follows (Torn at (length bytes.now)) (D.may_leave disk.old) (D.may_leave disk.new) }
+    ensures any_moment { LeavesOnly D.moment D.left_since disk.old disk.new (λ c. (d : List ℕ) × D.may_leave disk.old d × Torn at (length bytes.now) d c) }
+    ensures memory { IsErrOf result StoreFault.NoMemory → (D.holds disk.new ≡ D.holds disk.old) × IsTrue (D.up disk.new) × NoMore (D.may_leave disk.old) (D.may_leave disk.new) }
+    ensures up { OnOk result (IsTrue (D.up disk.new)) }
+    ensures counts { (D.downs disk.old ≤ D.downs disk.new) × (D.deads disk.old ≤ D.deads disk.new) }
+    ensures cause { IsErrOf result StoreFault.Down → Rose (D.downs disk.old) (D.downs disk.new) }
+{
+    disk.write_at(at, bytes)?;
+    disk.sync()?;
+    Ok(())
+}
+
+/// Cuts and syncs. At every moment of the call an image is one from before it, shortened by this cut at most. After
+/// `NoMemory` nothing has changed.
+pub fn cut_synced<D: Disk>(disk: &mut D, len: u64) -> Result<(), StoreFault>
+    requires up { IsTrue (D.up disk.old) }
+    requires within { Tells (D.holds disk.old) (λ c. len ≤ length c) }
+    ensures done { OnOk result (D.holds disk.new ≡ of_told (take len) (D.holds disk.old)) }
+    ensures durable { OnOk result (Only (D.holds disk.new) (D.may_leave disk.new)) }
+    ensures images { Follows (Shortened len) (D.may_leave disk.old) (D.may_leave disk.new) }
+    ensures any_moment { LeavesOnly D.moment D.left_since disk.old disk.new (λ c. (d : List ℕ) × D.may_leave disk.old d × Shortened len d c) }
+    ensures memory { IsErrOf result StoreFault.NoMemory → (D.holds disk.new ≡ D.holds disk.old) × IsTrue (D.up disk.new) × NoMore (D.may_leave disk.old) (D.may_leave disk.new) }
+    ensures up { OnOk result (IsTrue (D.up disk.new)) }
+    ensures counts { (D.downs disk.old ≤ D.downs disk.new) × (D.deads disk.old ≤ D.deads disk.new) }
+    ensures cause { IsErrOf result StoreFault.Down → Rose (D.downs disk.old) (D.downs disk.new) }
+{
+    disk.cut(len)?;
+    disk.sync()?;
+    Ok(())
+}
