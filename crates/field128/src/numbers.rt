@@ -4,6 +4,7 @@ ghost use Rattle.field128.specs.Modulus.{modulus};
 /// The modulus, 2^128 - 7 * 2^66 + 1.
 pub const MODULUS: u128 = 340_282_366_920_938_462_946_865_773_367_900_766_209;
 
+/// The sum modulo p of numbers below p; no step passes its type.
 #[inline]
 pub fn add_numbers(a: u128, b: u128) -> u128
     requires first { a < modulus }
@@ -14,6 +15,7 @@ pub fn add_numbers(a: u128, b: u128) -> u128
     if a >= room { a - room } else { a + b }
 }
 
+/// The difference modulo p of numbers below p.
 #[inline]
 pub fn subtract_numbers(a: u128, b: u128) -> u128
     requires first { a < modulus }
@@ -23,6 +25,7 @@ pub fn subtract_numbers(a: u128, b: u128) -> u128
     if a >= b { a - b } else { a + (MODULUS - b) }
 }
 
+/// The number that added to this one is 0 modulo p.
 #[inline]
 pub fn negate_number(a: u128) -> u128
     requires { a < modulus }

@@ -17,14 +17,17 @@ same a b e =
     let small : (n : ℕ) → IsProp (n < modulus) = λ n. hlevel props in
     λ i. record { number = e i; below = is_prop→PathP (λ j. e j < modulus) (λ j. small (e j)) a.below b.below i }
 
+-- an element whose number is the rest of n is the residue of n
 pub is_residue : (x : Field64) (n : ℕ) → x.number ≡ n % modulus → x ≡ residue_of n
 unfolding residue_of
 is_residue x n e = same x (residue_of n) e
 
+-- and the other way round
 pub number-residue : (n : ℕ) → (residue_of n).number ≡ n % modulus
 unfolding residue_of
 number-residue n = refl
 
+-- the elements are the numbers below p
 pub residues : Residues modulus number_of residue_of
 residues = record {
   large = lit< tt;
@@ -33,9 +36,11 @@ residues = record {
   number-residue = number-residue;
 }
 
+-- the ring is that of the residues
 pub is_residue_ring : ring_of ≡ residue_ring modulus number_of residue_of
 is_residue_ring = refl
 
+-- a commutative ring with one
 pub ring_laws : RingLaws ring_of
 ring_laws = residue_ring_laws residues
 
@@ -47,14 +52,17 @@ numbers = residue_ring_modular residues
 pub computed : power_modulo modulus 7 64 (4294967295 * 2147483648) ≡ modulus - 1
 computed = refl
 
+-- so the generator raised to half its order is minus one
 pub generator_turns : power ring_of generator 2147483648 ≡ ring_of.neg ring_of.unit
 unfolding generator
 generator_turns = power_turns residues 64 7 4294967295 2147483648 (lit< tt) computed
 
+-- and its powers are roots of one of order 2 ^ log
 pub root_laws : RootLaws ring_of 16 root_of_log
 unfolding root_of_log
 root_laws = roots_from ring_laws generator 32 16 (lit< tt) generator_turns
 
+-- half doubled is one
 pub half_law : ring_of.add half_element half_element ≡ ring_of.unit
 unfolding half_element
 half_law = half_doubled residues 9223372034707292161 refl

@@ -8,6 +8,7 @@ const TWO_32: u128 = 1 << 32;
 
 const TWO_64: u128 = 1 << 64;
 
+/// The sum modulo p of numbers below p; no step passes its type.
 #[inline]
 pub fn add_numbers(a: u64, b: u64) -> u64
     requires first { a < modulus }
@@ -18,6 +19,7 @@ pub fn add_numbers(a: u64, b: u64) -> u64
     if a >= room { a - room } else { a + b }
 }
 
+/// The difference modulo p of numbers below p.
 #[inline]
 pub fn subtract_numbers(a: u64, b: u64) -> u64
     requires first { a < modulus }
@@ -27,6 +29,7 @@ pub fn subtract_numbers(a: u64, b: u64) -> u64
     if a >= b { a - b } else { a + (MODULUS - b) }
 }
 
+/// The number that added to this one is 0 modulo p.
 #[inline]
 pub fn negate_number(a: u64) -> u64
     requires { a < modulus }

@@ -108,7 +108,7 @@ pub trait Field: Copy {
     {
         out.reserve(Self::WIDTH)?;
         let mut rest = self.value();
-        for i in 0..Self::WIDTH {
+        for _i in 0..Self::WIDTH {
             out.push_reserved((rest % 256) as u8);
             rest /= 256;
         }
