@@ -1,0 +1,2 @@
+pub mod FateList
+pub mod Fates
