@@ -6,3 +6,6 @@ pub mod Orders
 pub mod Spelling
 pub mod DoublingSteps
 pub mod Vectors
+pub mod Differences
+pub mod Sums
+pub mod Polynomials

@@ -2,3 +2,5 @@ pub mod Ring
 pub mod Residues
 pub mod Bytes
 pub mod Vector
+pub mod Sums
+pub mod Polynomial
