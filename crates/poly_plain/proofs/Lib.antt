@@ -1,0 +1,4 @@
+pub mod Roots
+pub mod Interpolation
+pub mod Logs
+pub mod Multiples

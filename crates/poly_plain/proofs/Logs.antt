@@ -1,0 +1,20 @@
+-- Exponents of powers of two.
+use Rattle.std.proofs.Common.{◌≡◌, ℕ, ◌^◌, ◌<◌, ◌≤◌, ◌⊎◌, inl, inr, arith}
+use Rattle.std.proofs.Math.Pow.{pow_mono}
+use Rattle.std.proofs.lemmas.Nat.{pow_below}
+use Rattle.std.proofs.lemmas.Bool.{cases_lt}
+
+pub exponent_below : (a b : ℕ) → 2 ^ a < 2 ^ b → a < b
+exponent_below a b h = cases (cases_lt a b)
+  where
+    cases : (a < b) ⊎ (b ≤ a) → a < b
+    cases (inl lt) = lt
+    cases (inr le) = let wrong : 2 ^ b ≤ 2 ^ a = pow_mono le in absurd (omega arith)
+
+pub same_exponent : (a b : ℕ) → 2 ^ a ≡ 2 ^ b → a ≡ b
+same_exponent a b e = cases (cases_lt a b) (cases_lt b a)
+  where
+    cases : (a < b) ⊎ (b ≤ a) → (b < a) ⊎ (a ≤ b) → a ≡ b
+    cases (inl lt) s = let wrong : 2 ^ a < 2 ^ b = pow_below a b lt in absurd (omega arith)
+    cases (inr le) (inl lt) = let wrong : 2 ^ b < 2 ^ a = pow_below b a lt in absurd (omega arith)
+    cases (inr le) (inr other) = omega arith
