@@ -9,3 +9,6 @@ pub mod Vectors
 pub mod Differences
 pub mod Sums
 pub mod Polynomials
+pub mod Roots
+pub mod Interpolation
+pub mod Logs

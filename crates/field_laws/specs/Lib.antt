@@ -4,3 +4,4 @@ pub mod Bytes
 pub mod Vector
 pub mod Sums
 pub mod Polynomial
+pub mod Interpolation

@@ -11,10 +11,10 @@ use Rattle.std.proofs.lemmas.List.FromFn.{length-map-range_with_len, get_or-map-
 use Rattle.std.specs.List.{range_with_len}
 use Rattle.field_laws.specs.Ring.{Ring, RingLaws, RootLaws, power}
 use Rattle.field_laws.specs.Polynomial.{eval, add_polynomials}
-use Rattle.poly_plain.specs.Interpolation.{coefficient, Interpolates}
-use Rattle.poly_plain.proofs.Interpolation.{Roots, roots_at, interpolation_exact, interpolation_only}
+use Rattle.field_laws.specs.Interpolation.{coefficient, Interpolates}
+use Rattle.field_laws.proofs.Interpolation.{Roots, roots_at, interpolation_exact, interpolation_only}
 use Rattle.field_laws.proofs.Polynomials.{eval-add, eval-push_nought, get_or-add, map-add, drop-add}
-use Rattle.poly_plain.proofs.Interpolation.{interpolation-add}
+use Rattle.field_laws.proofs.Interpolation.{interpolation-add}
 use Rattle.flp_circuits.specs.Shape.{quadratic_at, Shape, ShapeLaws, gadget, wires_of, results, IsValid}
 use Rattle.flp_proof.proofs.Orders.{wire_log_fits}
 use Rattle.flp_proof.specs.Proof.{wire_log, inverse_root, interpolated, wire_value, wire_values, wire, wires_at, gadget_polynomial, proof_of, call_results, query_of, Accepts}

@@ -6,8 +6,8 @@ use Rattle.std.proofs.lemmas.List.FromFn.{length-map-range_with_len}
 use Rattle.std.specs.List.{range_with_len}
 use Rattle.field_laws.specs.Ring.{Ring, RingLaws, RootLaws, power}
 use Rattle.field_laws.specs.Polynomial.{eval}
-use Rattle.poly_plain.specs.Interpolation.{Interpolates}
-use Rattle.poly_plain.proofs.Interpolation.{roots_at, interpolation_only}
+use Rattle.field_laws.specs.Interpolation.{Interpolates}
+use Rattle.field_laws.proofs.Interpolation.{roots_at, interpolation_only}
 use Rattle.flp_circuits.specs.Shape.{Shape, gadget}
 use Rattle.flp_proof.specs.Proof.{wire, wire_log, wires_at, interpolated, inverse_root, gadget_polynomial, call_results, query_of}
 use Rattle.flp_proof.proofs.Complete.{same_on_range}

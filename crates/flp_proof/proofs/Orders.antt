@@ -4,7 +4,7 @@ use Rattle.std.proofs.Math.Dec.{leb}
 use Rattle.std.proofs.Math.Nat.{pow-suc}
 use Rattle.std.proofs.lemmas.Nat.{pow_pos}
 use Rattle.std.proofs.lemmas.Bool.{leb-true, leb-false, le-leb, lt-leb}
-use Rattle.poly_plain.proofs.Logs.{exponent_below}
+use Rattle.field_laws.proofs.Logs.{exponent_below}
 use Rattle.flp_proof.specs.Proof.{log_from, wire_log}
 
 log_step : (l n tries later : ℕ) (b : Bool) → leb n (2 ^ l) ≡ b → (n ≤ 2 ^ later) × (later ≤ (l + 1) + tries) → (n ≤ 2 ^ cond b l later) × (cond b l later ≤ l + suc tries)
@@ -16,17 +16,6 @@ unfolding log_from
 log_enough zero l n h = (subst (λ k. n ≤ 2 ^ k) (let e : l + 0 ≡ l = omega arith in e) h, omega arith)
 log_enough (suc tries) l n h =
     log_step l n tries (log_from tries (l + 1) n) (leb n (2 ^ l)) refl (log_enough tries (l + 1) n (subst (λ k. n ≤ 2 ^ k) (let e : l + suc tries ≡ (l + 1) + tries = omega arith in e) h))
-
--- one try more
-pub log_next : (tries l n : ℕ) → 2 ^ l < n → log_from (suc tries) l n ≡ log_from tries (l + 1) n
-unfolding log_from
-log_next tries l n h = ap (λ b. cond b l (log_from tries (l + 1) n)) (lt-leb n (2 ^ l) h)
-
--- the first that is enough
-pub log_stop : (tries l n : ℕ) → n ≤ 2 ^ l → log_from tries l n ≡ l
-unfolding log_from
-log_stop zero l n h = refl
-log_stop (suc tries) l n h = ap (λ b. cond b l (log_from tries (l + 1) n)) (le-leb n (2 ^ l) h)
 
 pub wire_log_fits : (calls : ℕ) → calls ≤ 2047 → (calls + 1 ≤ 2 ^ wire_log calls) × (wire_log calls ≤ 11)
 unfolding wire_log

@@ -4,7 +4,7 @@ use Rattle.std.specs.List.{range_with_len}
 use Rattle.std.proofs.Common.{zero, suc}
 use Rattle.field_laws.specs.Ring.{Ring, power}
 use Rattle.field_laws.specs.Polynomial.{eval}
-use Rattle.poly_plain.specs.Interpolation.{interpolation}
+use Rattle.field_laws.specs.Interpolation.{interpolation}
 use Rattle.flp_circuits.specs.Shape.{Shape, gadget}
 
 -- the first l from this one on with n at most 2 ^ l, within the given number of tries

@@ -1,6 +1,6 @@
 ghost use Rattle.std.specs.Prelude.{◌≡◌, ◌+◌, ◌-◌, ◌*◌, ◌^◌, ◌<◌, ◌≤◌, ℕ, List, length, slice_index_or};
 ghost use Rattle.field_laws.specs.Polynomial.{eval, add_polynomials};
-ghost use Rattle.poly_plain.specs.Interpolation.{Interpolates};
+ghost use Rattle.field_laws.specs.Interpolation.{Interpolates};
 ghost use Rattle.flp_circuits.specs.Shape.{gadget, IsValid};
 ghost use Rattle.flp_proof.specs.Proof.{wire_log, wire_values, wire, wires_at, gadget_polynomial, proof_of, query_of, Accepts};
 

@@ -5,18 +5,13 @@ use flp_circuits::Circuit;
 
 /// The exponent of P, the least power of two that is above the number of calls.
 pub fn log_above(calls: usize) -> u8
-    requires { calls ≤ 2047 }
+    requires some { 1 ≤ calls }
+    requires few { calls ≤ 2047 }
     ensures value { result ≡ wire_log calls }
     ensures few { result ≤ 11 }
     ensures room { calls + 1 ≤ 2 ^ result }
 {
-    let mut log: u8 = 0;
-    let mut reached: usize = 1;
-    while reached < calls + 1 {
-        reached *= 2;
-        log += 1;
-    }
-    log
+    calls.ilog2() as u8 + 1
 }
 
 /// How many elements a proof has: a wire seed for each wire, and 2 (P - 1) + 1 coefficients.

@@ -1,4 +1,1 @@
-pub mod Roots
-pub mod Interpolation
-pub mod Logs
 pub mod Multiples

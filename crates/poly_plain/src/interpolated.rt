@@ -1,25 +1,10 @@
 ghost use Rattle.std.specs.Prelude.{◌≡◌, ◌-◌, ◌^◌, ◌≤◌, ℕ, List, length, IfOk};
 ghost use Rattle.field_laws.specs.Ring.{power};
-ghost use Rattle.poly_plain.specs.Interpolation.{HasLog, Interpolates, interpolation};
+ghost use Rattle.field_laws.specs.Interpolation.{HasLog, Interpolates, interpolation};
 
 use crate::value::eval;
-use field_laws::Field;
+use field_laws::{Field, log_of};
 use std::alloc::{AllocError, Global};
-
-/// The exponent of a power of two that is at most 4,096.
-fn log_of(size: usize) -> u8
-    requires { HasLog size 12 }
-    ensures few { result ≤ 12 }
-    ensures value { size ≡ 2 ^ result }
-{
-    let mut log: u8 = 0;
-    let mut reached: usize = 1;
-    while reached < size {
-        reached *= 2;
-        log += 1;
-    }
-    log
-}
 
 /// The coefficients for 2^log values: the transform by the inverse root, scaled.
 fn coefficients<F: Field>(alloc: Global, values: &[F], log: u8) -> Result<Vec<F>, AllocError>

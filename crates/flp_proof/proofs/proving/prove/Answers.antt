@@ -3,7 +3,7 @@ use Rattle.std.proofs.Math.ListN.{length-map, length-append}
 use Rattle.std.proofs.lemmas.Nat.{pow_pos}
 use Rattle.std.proofs.lemmas.List.FromFn.{length-map-range_with_len}
 use Rattle.std.specs.List.{range_with_len}
-use Rattle.poly_plain.specs.Interpolation.{Interpolates}
+use Rattle.field_laws.specs.Interpolation.{Interpolates}
 use Rattle.flp_proof.specs.Proof.{wire, wire_log, interpolated, gadget_polynomial}
 use Rattle.flp_proof.proofs.Orders.{twice_order}
 use Rattle.flp_proof.proofs.Complete.{length-gadget_polynomial}
@@ -11,7 +11,7 @@ use Rattle.flp_proof.proofs.Made.{gadget_values_are, gadget_polynomial_is, inter
 use Rattle.flp_proof.proofs.proving.prove.Goals as goal
 
 pub log_above-log-requires : goal.log_above-log-requires
-log_above-log-requires g c = rw c.calls.ensures ((g.met.C.Circuit.laws c.args.c.now).few_calls)
+log_above-log-requires g c = record { some = rw c.calls.ensures ((g.met.C.Circuit.laws c.args.c.now).has_calls); few = rw c.calls.ensures ((g.met.C.Circuit.laws c.args.c.now).few_calls) }
 
 pub gadget_values-requires-clause-wires : goal.gadget_values-requires-clause-wires
 gadget_values-requires-clause-wires g c =

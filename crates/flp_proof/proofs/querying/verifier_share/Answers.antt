@@ -33,7 +33,7 @@ returns-clause-share g c =
     ∙ query_is F.ring F.half_of F.root_of shape x proof c.args.one c.args.t c.args.joint.now c.deref.result.now c.deref-2.result.now wires results
 
 pub log_above-log-requires : goal.log_above-log-requires
-log_above-log-requires g c = rw c.calls.ensures ((g.met.C.Circuit.laws c.args.c.now).few_calls)
+log_above-log-requires g c = record { some = rw c.calls.ensures ((g.met.C.Circuit.laws c.args.c.now).has_calls); few = rw c.calls.ensures ((g.met.C.Circuit.laws c.args.c.now).few_calls) }
 
 pub returns-clause-size : goal.returns-clause-size
 returns-clause-size g c =

@@ -1,33 +1,21 @@
-use Rattle.std.proofs.Common.{◌≡◌, ℕ, ◌+◌, ◌-◌, ◌*◌, ◌^◌, ◌<◌, ◌≤◌, suc, ap, ◌∙◌, sym, refl, arith}
-use Rattle.std.proofs.Math.Nat.{pow-suc}
-use Rattle.poly_plain.proofs.Logs.{exponent_below}
-use Rattle.flp_proof.specs.Proof.{log_from, wire_log}
-use Rattle.flp_proof.proofs.Orders.{log_next, log_stop}
+use Rattle.std.proofs.Common.{◌≡◌, ℕ, ◌+◌, ◌^◌, ◌<◌, ◌≤◌, arith}
+use Rattle.field_laws.proofs.Logs.{exponent_below}
+use Rattle.flp_proof.specs.Proof.{wire_log}
+use Rattle.flp_proof.proofs.Orders.{wire_log_fits, wire_log_least, twice_order}
 use Rattle.flp_proof.proofs.sizes.log_above.Goals as goal
-
-pub loop-reached-init : goal.loop-reached-init
-unfolding wire_log
-loop-reached-init c = record { few = omega arith; power = refl; rest = refl }
-
-pub loop-reached-preserved : goal.loop-reached-preserved
-loop-reached-preserved c =
-    let log : ℕ = c.loop-reached.log in
-    let n : ℕ = c.args.calls + 1 in
-    let short : 2 ^ log < n = omega arith in
-    let below : log < 11 = exponent_below log 11 (omega (arith, short)) in
-    record {
-      few = omega arith;
-      power = ap (λ k. k * 2) c.loop-reached.invariant.power ∙ sym (pow-suc 2 log) ∙ ap (λ k. 2 ^ k) (let e : suc log ≡ log + 1 = omega arith in e);
-      rest = sym (ap (λ t. log_from t log n) (let e : 11 - log ≡ suc (11 - (log + 1)) = omega arith in e) ∙ log_next (11 - (log + 1)) log n short) ∙ c.loop-reached.invariant.rest;
-    }
 
 pub returns : goal.returns
 returns c =
-    let log : ℕ = c.loop-reached.log in
-    let n : ℕ = c.args.calls + 1 in
-    let enough : n ≤ 2 ^ log = omega (arith, c.loop-reached-test.false) in
+    let calls : ℕ = c.args.calls in
+    let r : ℕ = c.ilog2.result in
+    let double = twice_order r in
+    let fits = wire_log_fits calls c.requires.few in
+    let enough : calls + 1 ≤ 2 ^ (r + 1) = omega (arith, c.ilog2.ensures.next_power_gt, double.0) in
+    let least : wire_log calls ≤ r + 1 = wire_log_least calls (r + 1) enough in
+    let above : r < wire_log calls = exponent_below r (wire_log calls) (omega (arith, c.ilog2.ensures.power_le, fits.0)) in
+    let few : r < 11 = exponent_below r 11 (omega (arith, c.ilog2.ensures.power_le, c.requires.few)) in
     record {
-      value = sym (log_stop (11 - log) log n enough) ∙ c.loop-reached.invariant.rest;
-      few = c.loop-reached.invariant.few;
+      value = omega arith;
+      few = omega arith;
       room = enough;
     }

@@ -3,7 +3,7 @@ use Rattle.std.proofs.lemmas.Nat.{one_shl}
 use Rattle.std.specs.List.{range_with_len}
 use Rattle.std.proofs.lemmas.List.FromFn.{map-range_with_len_more, length-map-range_with_len}
 use Rattle.std.proofs.lemmas.Result.{IfOk-weaker}
-use Rattle.poly_plain.proofs.Interpolation.{roots_at, interpolation_only}
+use Rattle.field_laws.proofs.Interpolation.{roots_at, interpolation_only}
 use Rattle.flp_proof.specs.Proof.{wire_value, interpolated, inverse_root}
 use Rattle.flp_proof.proofs.wires.wire_of.Goals as goal
 

@@ -4,7 +4,7 @@ use Rattle.std.proofs.lemmas.List.FromFn.{map-range_with_len_more}
 use Rattle.field_laws.specs.Ring.{power}
 use Rattle.field_laws.proofs.Powers.{power-zero, power-suc}
 use Rattle.field_laws.specs.Polynomial.{eval}
-use Rattle.poly_plain.specs.Interpolation.{coefficient}
+use Rattle.field_laws.specs.Interpolation.{coefficient}
 use Rattle.poly_plain.proofs.interpolated.coefficients.Goals as goal
 
 pub loop-i-init : goal.loop-i-init

@@ -1,7 +1,7 @@
 use Rattle.std.proofs.Common.{◌≡◌, ◌-◌, ◌^◌, map}
 use Rattle.std.specs.List.{range_with_len}
 use Rattle.field_laws.specs.Ring.{power}
-use Rattle.poly_plain.specs.Interpolation.{coefficient}
+use Rattle.field_laws.specs.Interpolation.{coefficient}
 use Rattle.poly_plain.proofs.interpolated.coefficients.Given as goal
 
 abbrev pub invariant-loop-i : goal.invariant-loop-i

@@ -1,9 +1,9 @@
 use Rattle.std.proofs.Common.{◌≡◌, ℕ, ◌-◌, ◌^◌, ◌≤◌, ap, ◌∙◌, sym, subst, arith}
 use Rattle.std.proofs.lemmas.Result.{IfOk-weaker}
 use Rattle.field_laws.specs.Ring.{power}
-use Rattle.poly_plain.specs.Interpolation.{interpolation, Interpolates}
-use Rattle.poly_plain.proofs.Logs.{same_exponent}
-use Rattle.poly_plain.proofs.Interpolation.{roots_at, interpolation_exact}
+use Rattle.field_laws.specs.Interpolation.{interpolation, Interpolates}
+use Rattle.field_laws.proofs.Logs.{same_exponent}
+use Rattle.field_laws.proofs.Interpolation.{roots_at, interpolation_exact}
 use Rattle.poly_plain.proofs.interpolated.interpolate.Goals as goal
 
 pub returns : goal.returns

@@ -1,6 +1,6 @@
 use Rattle.std.proofs.Common.{◌-◌, ◌^◌}
 use Rattle.field_laws.specs.Ring.{power}
-use Rattle.poly_plain.proofs.Interpolation.{roots_at, interpolation_exact, interpolation_unique}
+use Rattle.field_laws.proofs.Interpolation.{roots_at, interpolation_exact, interpolation_unique}
 use Rattle.poly_plain.proofs.interpolated.interpolation_is_unique.Goals as goal
 
 pub returns-clause-exists : goal.returns-clause-exists

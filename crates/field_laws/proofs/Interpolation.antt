@@ -11,10 +11,10 @@ use Rattle.field_laws.proofs.Powers.{power-suc, power-one, power-add, power-mul,
 use Rattle.field_laws.proofs.Compute.{neg-unit_square}
 use Rattle.field_laws.specs.Sums.{sum_to}
 use Rattle.field_laws.specs.Polynomial.{eval, add_polynomials}
-use Rattle.poly_plain.specs.Interpolation.{coefficient, interpolation, Interpolates}
+use Rattle.field_laws.specs.Interpolation.{coefficient, interpolation, Interpolates}
 use Rattle.field_laws.proofs.Polynomials.{eval-add, map-add}
 use Rattle.field_laws.proofs.Sums.{sum_same, sum_scale, sum_swap, sum_only, eval_is_sum}
-use Rattle.poly_plain.proofs.Roots.{powers_vanish, halved}
+use Rattle.field_laws.proofs.Roots.{powers_vanish, halved}
 
 -- x and y are inverse roots of order 2 ^ log, and h is half of one
 pub record Roots {F : Type 0} (ring : Ring F) (h x y : F) (log : ℕ) : Type 0 where
