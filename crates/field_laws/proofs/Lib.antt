@@ -6,3 +6,9 @@ pub mod Orders
 pub mod Spelling
 pub mod DoublingSteps
 pub mod Vectors
+pub mod Differences
+pub mod Sums
+pub mod Polynomials
+pub mod Roots
+pub mod Interpolation
+pub mod Logs

@@ -7,11 +7,13 @@
 
 mod doubling;
 mod element;
+mod exponent;
 mod laws;
 mod vector;
 
 pub use doubling::multiply_by_doubling;
 pub use element::Field;
+pub use exponent::log_of;
 pub use laws::{
     bytes_spell_elements, elements_are_their_numbers, halves_make_one, results_are_modular,
     ring_is_commutative, roots_have_their_order,
