@@ -1,0 +1,4 @@
+pub mod Ring
+pub mod Residues
+pub mod Bytes
+pub mod Vector
