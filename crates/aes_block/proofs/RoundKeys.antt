@@ -3,7 +3,7 @@ use Rattle.std.proofs.Common.{◌≡◌, ℕ, zero, suc, ◌+◌, ◌-◌, ◌*�
 use Rattle.std.proofs.lemmas.Bool.{cases_lt, ne_eqb}
 use Rattle.std.proofs.lemmas.List.{get_or_append_left, get_or_push, get_or-set_other, get_or-set_same, length_push}
 use Rattle.std.specs.List.{concat, slice_index_or}
-use Rattle.aes_block.specs.Schedule.{add_words, turned, next_word, schedule, word, round_words, round_key}
+use Rattle.aes_block.specs.Schedule.{add_bytes, turned, next_word, schedule, word, round_words, round_key}
 use Rattle.aes_block.specs.Cipher.{round, rounds}
 use Rattle.aes_block.specs.Columns.{bytes_of, words_of, next_words, AreRoundKeys, key_of}
 
@@ -30,14 +30,14 @@ word_is key n i le lt =
 
 -- a later word, by the two that it is made of: the one before it is word j, and the one four before is word i
 word_next : (key : List ℕ) (i j n : ℕ) → n < 40 → i ≡ n → j ≡ 3 + n
-    → word key (4 + n) ≡ add_words (word key i) (cond ((4 + n) % 4 == 0) (turned (word key j) ((4 + n) / 4)) (word key j))
+    → word key (4 + n) ≡ add_bytes (word key i) (cond ((4 + n) % 4 == 0) (turned (word key j) ((4 + n) / 4)) (word key j))
 unfolding schedule
 word_next key i j n lt hi hj =
     let ws = schedule key n in
     let made : word key (4 + n) ≡ next_word ws (4 + n) = word_is key (suc n) (4 + n) (omega arith) (omega arith) ∙ get_or_push ws (next_word ws (4 + n)) [] (4 + n) (length-schedule key n) in
     let back : slice_index_or ws (4 + n - 4) [] ≡ word key i = ap (λ m. slice_index_or ws m []) (omega arith) ∙ sym (word_is key n i (omega arith) (omega arith)) in
     let last : slice_index_or ws (4 + n - 1) [] ≡ word key j = ap (λ m. slice_index_or ws m []) (omega arith) ∙ sym (word_is key n j (omega arith) (omega arith)) in
-    made ∙ (λ t. add_words (back t) (cond ((4 + n) % 4 == 0) (turned (last t) ((4 + n) / 4)) (last t)))
+    made ∙ (λ t. add_bytes (back t) (cond ((4 + n) % 4 == 0) (turned (last t) ((4 + n) / 4)) (last t)))
 
 -- the words of a round come from those of the round before
 pub round_words_next : (key : List ℕ) (n : ℕ) → n < 10 → next_words (round_words key n) (n + 1) ≡ round_words key (n + 1)
@@ -55,21 +55,21 @@ round_words_next key n lt = λ t. sym first t ∷ sym second t ∷ sym third t �
         let turns : (4 + 4 * n) % 4 ≡ 0 = omega arith in
         let round : (4 + 4 * n) / 4 ≡ n + 1 = omega arith in
         ap (word key) e ∙ word_next key (4 * n) (4 * n + 3) (4 * n) (omega arith) refl (omega arith)
-        ∙ (λ t. add_words (word key (4 * n)) (cond (turns t == 0) (turned (word key (4 * n + 3)) (round t)) (word key (4 * n + 3))))
+        ∙ (λ t. add_bytes (word key (4 * n)) (cond (turns t == 0) (turned (word key (4 * n + 3)) (round t)) (word key (4 * n + 3))))
 
-    later : (m : ℕ) → m < 40 → (4 + m) % 4 ≢ 0 → (i j k : ℕ) → k ≡ 4 + m → i ≡ m → j ≡ 3 + m → word key k ≡ add_words (word key i) (word key j)
+    later : (m : ℕ) → m < 40 → (4 + m) % 4 ≢ 0 → (i j k : ℕ) → k ≡ 4 + m → i ≡ m → j ≡ 3 + m → word key k ≡ add_bytes (word key i) (word key j)
     later m small ne i j k hk hi hj =
         ap (word key) hk ∙ word_next key i j m small hi hj
-        ∙ ap (λ b. add_words (word key i) (cond b (turned (word key j) ((4 + m) / 4)) (word key j))) (ne_eqb ((4 + m) % 4) 0 ne)
+        ∙ ap (λ b. add_bytes (word key i) (cond b (turned (word key j) ((4 + m) / 4)) (word key j))) (ne_eqb ((4 + m) % 4) 0 ne)
 
     second : word key (4 * (n + 1) + 1) ≡ word_at 1
-    second = later (4 * n + 1) (omega arith) (omega arith) (4 * n + 1) (4 * (n + 1)) (4 * (n + 1) + 1) (omega arith) refl (omega arith) ∙ ap (add_words (word key (4 * n + 1))) first
+    second = later (4 * n + 1) (omega arith) (omega arith) (4 * n + 1) (4 * (n + 1)) (4 * (n + 1) + 1) (omega arith) refl (omega arith) ∙ ap (add_bytes (word key (4 * n + 1))) first
 
     third : word key (4 * (n + 1) + 2) ≡ word_at 2
-    third = later (4 * n + 2) (omega arith) (omega arith) (4 * n + 2) (4 * (n + 1) + 1) (4 * (n + 1) + 2) (omega arith) refl (omega arith) ∙ ap (add_words (word key (4 * n + 2))) second
+    third = later (4 * n + 2) (omega arith) (omega arith) (4 * n + 2) (4 * (n + 1) + 1) (4 * (n + 1) + 2) (omega arith) refl (omega arith) ∙ ap (add_bytes (word key (4 * n + 2))) second
 
     fourth : word key (4 * (n + 1) + 3) ≡ word_at 3
-    fourth = later (4 * n + 3) (omega arith) (omega arith) (4 * n + 3) (4 * (n + 1) + 2) (4 * (n + 1) + 3) (omega arith) refl (omega arith) ∙ ap (add_words (word key (4 * n + 3))) third
+    fourth = later (4 * n + 3) (omega arith) (omega arith) (4 * n + 3) (4 * (n + 1) + 2) (4 * (n + 1) + 3) (omega arith) refl (omega arith) ∙ ap (add_bytes (word key (4 * n + 3))) third
 
 -- the words of round 0 are those of the key
 pub round_words_first : (key ws : List ℕ) → bytes_of ws ≡ key → words_of ws ≡ round_words key 0

@@ -4,10 +4,10 @@ use Rattle.std.specs.List.{concat}
 use Rattle.std.proofs.Common.{zero, suc}
 use Rattle.aes_block.specs.Byte.{sub_byte}
 
--- the sum of two words, byte by byte
-abbrev pub add_words : List ℕ → List ℕ → List ℕ
-add_words (x ∷ xs) (y ∷ ys) = bit_xor x y ∷ add_words xs ys
-add_words _ _ = []
+-- the sum of two lists of bytes, byte by byte
+abbrev pub add_bytes : List ℕ → List ℕ → List ℕ
+add_bytes (x ∷ xs) (y ∷ ys) = bit_xor x y ∷ add_bytes xs ys
+add_bytes _ _ = []
 
 -- the constant of round n, from 1 on, in the word's first byte
 abbrev pub round_constant : ℕ → List ℕ
@@ -16,13 +16,13 @@ round_constant n =
 
 -- a word turned left by one byte, substituted and joined with the constant of round n
 abbrev pub turned : List ℕ → ℕ → List ℕ
-turned w n = add_words (map sub_byte (drop 1 w ++ take 1 w)) (round_constant n)
+turned w n = add_bytes (map sub_byte (drop 1 w ++ take 1 w)) (round_constant n)
 
 -- word i from the words before it
 abbrev pub next_word : List (List ℕ) → ℕ → List ℕ
 next_word ws i =
     let last = slice_index_or ws (i - 1) [] in
-    add_words (slice_index_or ws (i - 4) []) (if i % 4 == 0 then turned last (i / 4) else last)
+    add_bytes (slice_index_or ws (i - 4) []) (if i % 4 == 0 then turned last (i / 4) else last)
 
 -- the first 4 + n words of a key's schedule
 unfoldable pub schedule : List ℕ → ℕ → List (List ℕ)

@@ -9,9 +9,10 @@ ghost use Rattle.aes_block.specs.State.{add_round_key};
 
 use crate::tables::{MIXED_0, MIXED_1, MIXED_2, MIXED_3, SUBSTITUTED};
 
-/// Four columns, each with row 0 in the high byte.
+/// Four columns, each with its first row in the high byte.
 pub(crate) type Columns = [u32; 4];
 
+/// SubBytes at one byte.
 #[inline(always)]
 pub(crate) fn substituted(byte: u8) -> u8
     ensures { result ≡ sub_byte byte }
@@ -47,7 +48,7 @@ fn mixed_3(byte: u8) -> u32
     MIXED_3[byte as usize]
 }
 
-// Rows 0 to 3 of a column after ShiftRows come from four columns.
+// A column after ShiftRows has its four rows from four columns.
 #[inline(always)]
 fn mixed_column(a: u32, b: u32, c: u32, d: u32, key: u32) -> u32
     ensures { to_be_bytes w32 result ≡ mixed_column a b c d key }
@@ -99,6 +100,7 @@ pub(crate) fn last_round(state: &mut Columns, key: &Columns)
     ];
 }
 
+/// AddRoundKey.
 #[inline(always)]
 pub(crate) fn add_round_key(state: &mut Columns, key: &Columns)
     ensures { bytes_of state.new ≡ add_round_key (bytes_of state.old) (bytes_of key.now) }
@@ -107,7 +109,7 @@ pub(crate) fn add_round_key(state: &mut Columns, key: &Columns)
     *state = [a ^ key[0], b ^ key[1], c ^ key[2], d ^ key[3]];
 }
 
-// The column whose row 0 is byte number `start` of the block.
+// The column whose first row is byte number `start` of the block.
 #[inline(always)]
 fn column_at(block: &[u8; 16], start: usize) -> u32
     requires { start + 4 ≤ 16 }
