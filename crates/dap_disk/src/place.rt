@@ -7,6 +7,7 @@ ghost use Rattle.dap_disk.specs.Images.{greatest};
 use crate::Image;
 use crate::event::Event;
 
+/// Puts bytes at a place, over what is there and past the end.
 pub(crate) fn write_over(file: &mut Vec<u8>, at: usize, bytes: &[u8])
     requires within { at ≤ length file.old.items }
     requires room { at + length bytes.now ≤ vec_capacity file.old }
@@ -24,6 +25,7 @@ pub(crate) fn write_over(file: &mut Vec<u8>, at: usize, bytes: &[u8])
     }
 }
 
+/// Puts a byte n times at a place, likewise.
 fn fill_over(file: &mut Vec<u8>, at: usize, n: usize, byte: u8)
     requires within { at ≤ length file.old.items }
     requires room { at + n ≤ vec_capacity file.old }
@@ -41,6 +43,7 @@ fn fill_over(file: &mut Vec<u8>, at: usize, n: usize, byte: u8)
     }
 }
 
+/// What the rule leaves of one call.
 fn put_event(file: &mut Vec<u8>, image: Image, event: &Event)
     requires room { greatest (length file.old.items) (change_of event.now) ≤ vec_capacity file.old }
     ensures bytes { file.new.items ≡ puts image (change_of event.now) file.old.items }

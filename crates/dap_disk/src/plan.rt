@@ -20,6 +20,7 @@ pub(crate) struct Plan {
 }
 
 impl Plan {
+    /// No call made yet.
     pub(crate) fn new(stops: Vec<Stop>, dead_from: Option<u64>) -> Plan
         ensures given { (result.stops.items ≡ stops.items) × (result.dead_from ≡ dead_from) }
         ensures none_made { (result.calls ≡ 0) × (result.restarts ≡ 0) }
@@ -77,6 +78,7 @@ impl Plan {
     }
 }
 
+/// What the first stop that is listed for a call leaves.
 fn image_at(stops: &[Stop], call: u64) -> Option<Image>
     ensures { result ≡ image_at stops.now call }
 {

@@ -33,6 +33,7 @@ pub(crate) struct Store {
 }
 
 impl Store {
+    /// A store of these bytes, all of them synced. It takes no memory.
     pub(crate) fn new(alloc: Global, first: Vec<u8>) -> Store
         ensures first { result.first.items ≡ first.items }
         ensures events { result.events.items ≡ [] }

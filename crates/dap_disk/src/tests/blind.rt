@@ -13,6 +13,7 @@ pub struct Blind {
 }
 
 impl Blind {
+    /// A disk that is up.
     pub fn new() -> Self
         ensures { IsTrue (⟦<Blind as Disk>⟧.up result) }
     {

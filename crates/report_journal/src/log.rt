@@ -1,0 +1,213 @@
+//! A journal: blocks of records, each behind a gate byte that is opened once the block is on the disk.
+ghost use Rattle.std.specs.Prelude.{◌≡◌, ◌⊎◌, ◌≤◌, ◌<◌, ◌^◌, ◌+◌, ◌++◌, [], List, ℕ, length, IfOk, IfErr, OnOk, OnErr, IsErrOf, IsTrue, Some, false};
+ghost use Rattle.dap_bytes.specs.Causes.{Rose};
+ghost use Rattle.dap_disk.specs.Disk.{Tells, LeavesOnly, of_told};
+ghost use Rattle.report_journal.specs.Journal.{Closed, NoJournal, Stands, body, with_block};
+ghost use Rattle.report_journal.specs.Log.{Leaves};
+ghost use Rattle.report_journal.specs.Reading.{SameRecords, opened};
+
+use crate::block::{block_bytes, keep_copies};
+use crate::moves::{gate_after_restart, write_block};
+use crate::opening::start;
+use crate::{AppendFault, LogFault, MAX_BLOCK, RestartFault};
+use dap_disk::{Disk, StoreFault};
+use std::alloc::Global;
+use std::marker::Model;
+
+/// A journal on a disk. Contracts see its disk, its records, the block in hand whose fate is open while it is down,
+/// and whether it is up. After `Down` or `Dead` only `restart`, `up` and `into_disk` are of use.
+#[derive(Drop)]
+pub struct Log<D: Disk> {
+    disk: D,
+    // The records, and behind them those of the block in hand.
+    records: Vec<Vec<u8>>,
+    durable: usize,
+    // Where the last gate stands.
+    gate: u64,
+    // How many bytes the block in hand has behind its gate, with the gate behind it.
+    size: u64,
+    up: bool,
+}
+
+impl<D: Disk> Model for Log<D> {
+    ghost use Rattle.std.specs.Prelude.{take, drop};
+    ghost use Rattle.report_journal.specs.Log.{LogView, log_code, IsLog, contents};
+
+    ghost Value = { LogView D };
+
+    ghost coded = { log_code D.code };
+
+    ghost view = { λ a. record {
+      disk = a.disk;
+      records = contents (take a.durable a.records.items);
+      coming = contents (drop a.durable a.records.items);
+      up = a.up;
+    } };
+
+    ghost invariant = { λ a. IsLog D.holds D.up D.may_leave a.disk a.records.items a.durable a.gate a.size a.up };
+}
+
+/// Why an opening was refused, with the disk.
+#[derive(Drop)]
+pub struct OpenRefused<D> {
+    pub disk: D,
+    pub fault: LogFault,
+}
+
+impl<D: Disk> Log<D> {
+    ghost use Rattle.report_journal.specs.Log.{contents};
+
+    /// Opens a journal. It begins with a sync and reads the file; an empty file, or one open gate alone, is made a
+    /// journal without records. After `NoMemory` the disk is up and its bytes give the same records as before, after
+    /// `NotAJournal` they are as before.
+    pub fn open(alloc: Global, disk: D) -> Result<Log<D>, OpenRefused<D>>
+        requires { IsTrue (D.up disk) }
+
+        ensures up { IfOk result (λ log. IsTrue log.up) }
+        ensures at_rest { IfOk result (λ log. log.coming ≡ []) }
+        ensures records { IfOk result (λ log. Tells (D.holds disk) (Stands log.records)) }
+        ensures held { IfOk result (λ log. Tells (D.holds log.disk) (Stands log.records)) }
+        ensures file { IfOk result (λ log. D.holds log.disk ≡ of_told opened (D.holds disk)) }
+        ensures images { IfOk result (λ log. Leaves D.may_leave log) }
+
+        // At every moment a stop leaves what it might have left before, or a file with the same records.
+        ensures any_moment { IfOk result (λ log. LeavesOnly D.moment D.left_since disk log.disk (λ c. D.may_leave disk c ⊎ SameRecords (D.holds disk) c)) }
+        ensures any_moment_err { IfErr result (λ e. LeavesOnly D.moment D.left_since disk e.disk (λ c. D.may_leave disk c ⊎ SameRecords (D.holds disk) c)) }
+
+        ensures none { IfErr result (λ e. (at : ℕ) → e.fault ≡ LogFault.NotAJournal at → Tells (D.holds disk) (NoJournal at) × (D.holds e.disk ≡ D.holds disk) × IsTrue (D.up e.disk)) }
+        ensures memory { IfErr result (λ e. e.fault ≡ LogFault.NoMemory → IsTrue (D.up e.disk) × Tells (D.holds e.disk) (SameRecords (D.holds disk))) }
+        ensures cause { IfErr result (λ e. e.fault ≡ LogFault.Down → Rose (D.downs disk) (D.downs e.disk)) }
+        ensures counts { IfOk result (λ log. (D.downs disk ≤ D.downs log.disk) × (D.deads disk ≤ D.deads log.disk)) }
+        ensures counts_err { IfErr result (λ e. (D.downs disk ≤ D.downs e.disk) × (D.deads disk ≤ D.deads e.disk)) }
+    {
+        let mut disk = disk;
+        match start(alloc, &mut disk) {
+            Ok((records, gate)) => {
+                let durable = records.len();
+                Ok(Log {
+                    disk,
+                    records,
+                    durable,
+                    gate: gate as u64,
+                    size: 0,
+                    up: true,
+                })
+            }
+            Err(fault) => Err(OpenRefused { disk, fault }),
+        }
+    }
+
+    /// Whether it takes records.
+    pub fn up(&self) -> bool
+        ensures up { result ≡ self.now.up }
+        ensures images { Leaves D.may_leave self.now }
+    {
+        self.up
+    }
+
+    /// The records as opened and appended, the oldest first.
+    pub fn records(&self) -> &[Vec<u8>]
+        ensures records { contents result.now ≡ self.now.records }
+        ensures images { Leaves D.may_leave self.now }
+    {
+        &self.records[..self.durable]
+    }
+
+    /// The disk.
+    pub fn into_disk(self) -> D
+        ensures disk { result ≡ self.disk }
+        ensures images { Leaves D.may_leave self }
+        ensures held { IsTrue self.up → Tells (D.holds self.disk) (Stands self.records) }
+    {
+        let Log {
+            disk,
+            records: _,
+            durable: _,
+            gate: _,
+            size: _,
+            up: _,
+        } = self;
+        disk
+    }
+
+    /// Adds records as one block, at least one and `MAX_BLOCK` bytes at most. It writes the block behind the shut
+    /// gate, syncs, opens the gate and syncs, so a stop at any moment leaves all of them or none. After `Ok` every
+    /// stop leaves them. After `Down` they are in hand, and a restart finds out whether they count. After `NoMemory`
+    /// the records are as before, in every image too.
+    pub fn append(&mut self, alloc: Global, records: &[Vec<u8>]) -> Result<(), AppendFault>
+        requires up { IsTrue self.old.up }
+        requires some { 0 < length records.now }
+        requires size { length (body (contents records.now)) ≤ MAX_BLOCK }
+
+        ensures added { OnOk result ((self.new.records ≡ self.old.records ++ contents records.now) × IsTrue self.new.up) }
+        ensures file { OnOk result (Tells (D.holds self.old.disk) (λ c. (q : ℕ) × Closed self.old.records q c × (D.holds self.new.disk ≡ Some (with_block q (contents records.now) c)))) }
+        ensures durable { OnOk result ((c : List ℕ) → D.may_leave self.new.disk c → Stands self.new.records c) }
+        ensures any_moment { LeavesOnly D.moment D.left_since self.old.disk self.new.disk (λ c. Stands self.old.records c ⊎ Stands (self.old.records ++ contents records.now) c) }
+        ensures memory { IsErrOf result AppendFault.NoMemory → IsTrue self.new.up × (self.new.records ≡ self.old.records) × ((c : List ℕ) → D.may_leave self.new.disk c → Stands self.old.records c) }
+        ensures in_hand { IsErrOf result AppendFault.Down → (self.new.up ≡ false) × (self.new.records ≡ self.old.records) × (self.new.coming ≡ contents records.now) }
+        ensures at_rest { IsTrue self.new.up → self.new.coming ≡ [] }
+        ensures images { Leaves D.may_leave self.new }
+        ensures cause { IsErrOf result AppendFault.Down → Rose (D.downs self.old.disk) (D.downs self.new.disk) }
+        ensures counts { (D.downs self.old.disk ≤ D.downs self.new.disk) × (D.deads self.old.disk ≤ D.deads self.new.disk) }
+    {
+        let gate = self.gate;
+        let bytes = match block_bytes(alloc, records) {
+            Ok(bytes) => bytes,
+            Err(_) => return Err(AppendFault::NoMemory),
+        };
+        let size = bytes.len() as u64;
+        if gate >= u64::MAX - size {
+            return Err(AppendFault::NoMemory);
+        }
+        let Ok(()) = keep_copies(alloc, &mut self.records, records) else {
+            return Err(AppendFault::NoMemory);
+        };
+        match write_block(&mut self.disk, &self.records, self.durable, gate, &bytes) {
+            Ok(()) => {
+                self.durable = self.records.len();
+                self.gate = gate + size;
+                self.size = 0;
+                Ok(())
+            }
+            Err(StoreFault::NoMemory) => {
+                self.records.truncate(self.durable);
+                Err(AppendFault::NoMemory)
+            }
+            Err(StoreFault::Down) => {
+                self.size = size;
+                self.up = false;
+                Err(AppendFault::Down)
+            }
+        }
+    }
+
+    /// Restarts the disk, and finds by the byte at the last gate whether the block in hand is on it. It takes no
+    /// memory. After a refusal it is down, with the records and the block in hand as before.
+    pub fn restart(&mut self) -> Result<(), RestartFault>
+        ensures records { OnOk result (IsTrue self.new.up × ((self.new.records ≡ self.old.records) ⊎ (self.new.records ≡ self.old.records ++ self.old.coming))) }
+        ensures told { OnOk result (Tells (D.holds self.new.disk) (Stands self.new.records)) }
+        ensures image { OnOk result (Tells (D.holds self.new.disk) (D.may_leave self.old.disk)) }
+        ensures durable { OnOk result ((c : List ℕ) → D.may_leave self.new.disk c → Stands self.new.records c) }
+        ensures any_moment { LeavesOnly D.moment D.left_since self.old.disk self.new.disk (λ c. Stands self.old.records c ⊎ Stands (self.old.records ++ self.old.coming) c) }
+        ensures same { OnErr result ((self.new.up ≡ false) × (self.new.records ≡ self.old.records) × (self.new.coming ≡ self.old.coming)) }
+        ensures at_rest { OnOk result (self.new.coming ≡ []) }
+        ensures images { Leaves D.may_leave self.new }
+        ensures dead { IsErrOf result RestartFault.Dead → Rose (D.deads self.old.disk) (D.deads self.new.disk) }
+        ensures down { IsErrOf result RestartFault.Down → Rose (D.downs self.old.disk) (D.downs self.new.disk) }
+        ensures counts { (D.downs self.old.disk ≤ D.downs self.new.disk) × (D.deads self.old.disk ≤ D.deads self.new.disk) }
+    {
+        self.up = false;
+        let open_gate = gate_after_restart(&mut self.disk, self.gate)?;
+        if open_gate {
+            self.durable = self.records.len();
+            self.gate += self.size;
+            self.size = 0;
+            self.up = true;
+            return Ok(());
+        }
+        self.records.truncate(self.durable);
+        self.size = 0;
+        self.up = true;
+        Ok(())
+    }
+}

@@ -1,0 +1,111 @@
+//! What an append and a restart do to the disk.
+ghost use Rattle.std.specs.Prelude.{◌≡◌, ◌≤◌, ◌<◌, ◌^◌, ◌+◌, ◌++◌, ◌↔◌, [], ◌∷◌, List, ℕ, length, take, drop, slice_index, IfOk, OnOk, IsErrOf, IsTrue};
+ghost use Rattle.dap_bytes.specs.Causes.{Rose};
+ghost use Rattle.dap_disk.specs.Disk.{Tells, NoMore, LeavesOnly, Only, of_told, written};
+ghost use Rattle.report_journal.specs.Journal.{Closed, Staged, Either, IsBlock, behind};
+ghost use Rattle.report_journal.specs.Log.{contents};
+
+use crate::RestartFault;
+use dap_disk::{Disk, StoreFault, write_synced};
+
+/// Writes a block and the next gate behind the shut gate. The first `durable` of what is kept stand, the others come.
+fn stage_block<D: Disk>(
+    disk: &mut D,
+    kept: &[Vec<u8>],
+    durable: usize,
+    gate: u64,
+    bytes: &[u8],
+) -> Result<(), StoreFault>
+    requires up { IsTrue (D.up disk.old) }
+    requires held { Tells (D.holds disk.old) (Closed (contents (take durable kept.now)) gate) }
+    requires images { (c : List ℕ) → D.may_leave disk.old c → Closed (contents (take durable kept.now)) gate c }
+    requires bytes { bytes.now ≡ behind (contents (drop durable kept.now)) }
+    requires fits { gate + length bytes.now < 2 ^ 64 }
+    ensures done { OnOk result (D.holds disk.new ≡ of_told (written (gate + 1) bytes.now) (D.holds disk.old)) }
+    ensures staged { OnOk result (Tells (D.holds disk.new) (Staged (contents (take durable kept.now)) (contents (drop durable kept.now)) gate)) }
+    ensures durable { OnOk result ((c : List ℕ) → D.may_leave disk.new c → Staged (contents (take durable kept.now)) (contents (drop durable kept.now)) gate c) }
+    ensures images { (c : List ℕ) → D.may_leave disk.new c → Closed (contents (take durable kept.now)) gate c }
+    ensures any_moment { LeavesOnly D.moment D.left_since disk.old disk.new (Closed (contents (take durable kept.now)) gate) }
+    ensures memory { IsErrOf result StoreFault.NoMemory → IsTrue (D.up disk.new) × Tells (D.holds disk.new) (Closed (contents (take durable kept.now)) gate) }
+    ensures up { OnOk result (IsTrue (D.up disk.new)) }
+    ensures counts { (D.downs disk.old ≤ D.downs disk.new) × (D.deads disk.old ≤ D.deads disk.new) }
+    ensures cause { IsErrOf result StoreFault.Down → Rose (D.downs disk.old) (D.downs disk.new) }
+{
+    write_synced(disk, gate + 1, bytes)
+}
+
+/// Opens the gate before a block that is on the disk.
+fn open_gate<D: Disk>(
+    disk: &mut D,
+    kept: &[Vec<u8>],
+    durable: usize,
+    gate: u64,
+) -> Result<(), StoreFault>
+    requires up { IsTrue (D.up disk.old) }
+    requires held { Tells (D.holds disk.old) (Staged (contents (take durable kept.now)) (contents (drop durable kept.now)) gate) }
+    requires images { (c : List ℕ) → D.may_leave disk.old c → Staged (contents (take durable kept.now)) (contents (drop durable kept.now)) gate c }
+    requires block { IsBlock (contents (drop durable kept.now)) }
+    ensures done { OnOk result (D.holds disk.new ≡ of_told (written gate (1 ∷ [])) (D.holds disk.old)) }
+    ensures held { OnOk result (Tells (D.holds disk.new) (Closed (contents (take durable kept.now) ++ contents (drop durable kept.now)) (gate + length (behind (contents (drop durable kept.now)))))) }
+    ensures durable { OnOk result ((c : List ℕ) → D.may_leave disk.new c → Closed (contents (take durable kept.now) ++ contents (drop durable kept.now)) (gate + length (behind (contents (drop durable kept.now)))) c) }
+    ensures images { (c : List ℕ) → D.may_leave disk.new c → Either (contents (take durable kept.now)) (contents (drop durable kept.now)) gate c }
+    ensures any_moment { LeavesOnly D.moment D.left_since disk.old disk.new (Either (contents (take durable kept.now)) (contents (drop durable kept.now)) gate) }
+    ensures memory { IsErrOf result StoreFault.NoMemory → IsTrue (D.up disk.new) × Tells (D.holds disk.new) (Closed (contents (take durable kept.now)) gate) × ((c : List ℕ) → D.may_leave disk.new c → Closed (contents (take durable kept.now)) gate c) }
+    ensures up { OnOk result (IsTrue (D.up disk.new)) }
+    ensures counts { (D.downs disk.old ≤ D.downs disk.new) × (D.deads disk.old ≤ D.deads disk.new) }
+    ensures cause { IsErrOf result StoreFault.Down → Rose (D.downs disk.old) (D.downs disk.new) }
+{
+    write_synced(disk, gate, &[1])
+}
+
+/// Writes a block behind the shut gate and then opens it. At every moment the block is there whole or not at all.
+pub(crate) fn write_block<D: Disk>(
+    disk: &mut D,
+    kept: &[Vec<u8>],
+    durable: usize,
+    gate: u64,
+    bytes: &[u8],
+) -> Result<(), StoreFault>
+    requires up { IsTrue (D.up disk.old) }
+    requires held { Tells (D.holds disk.old) (Closed (contents (take durable kept.now)) gate) }
+    requires images { (c : List ℕ) → D.may_leave disk.old c → Closed (contents (take durable kept.now)) gate c }
+    requires bytes { bytes.now ≡ behind (contents (drop durable kept.now)) }
+    requires block { IsBlock (contents (drop durable kept.now)) }
+    requires fits { gate + length bytes.now < 2 ^ 64 }
+    ensures file { OnOk result (D.holds disk.new ≡ of_told (λ c. written gate (1 ∷ []) (written (gate + 1) bytes.now c)) (D.holds disk.old)) }
+    ensures held { OnOk result (Tells (D.holds disk.new) (Closed (contents (take durable kept.now) ++ contents (drop durable kept.now)) (gate + length (behind (contents (drop durable kept.now)))))) }
+    ensures durable { OnOk result ((c : List ℕ) → D.may_leave disk.new c → Closed (contents (take durable kept.now) ++ contents (drop durable kept.now)) (gate + length (behind (contents (drop durable kept.now)))) c) }
+    ensures up { OnOk result (IsTrue (D.up disk.new)) }
+    ensures images { (c : List ℕ) → D.may_leave disk.new c → Either (contents (take durable kept.now)) (contents (drop durable kept.now)) gate c }
+    ensures any_moment { LeavesOnly D.moment D.left_since disk.old disk.new (Either (contents (take durable kept.now)) (contents (drop durable kept.now)) gate) }
+    ensures memory { IsErrOf result StoreFault.NoMemory → IsTrue (D.up disk.new) × Tells (D.holds disk.new) (Closed (contents (take durable kept.now)) gate) × ((c : List ℕ) → D.may_leave disk.new c → Closed (contents (take durable kept.now)) gate c) }
+    ensures counts { (D.downs disk.old ≤ D.downs disk.new) × (D.deads disk.old ≤ D.deads disk.new) }
+    ensures cause { IsErrOf result StoreFault.Down → Rose (D.downs disk.old) (D.downs disk.new) }
+{
+    match stage_block(disk, kept, durable, gate, bytes) {
+        Ok(()) => open_gate(disk, kept, durable, gate),
+        Err(fault) => Err(fault),
+    }
+}
+
+/// Restarts the disk, and says whether the gate at this place stands open.
+pub(crate) fn gate_after_restart<D: Disk>(disk: &mut D, gate: u64) -> Result<bool, RestartFault>
+    ensures told { IfOk result (λ open_gate. Tells (D.holds disk.new) (λ c. gate < length c → (IsTrue open_gate ↔ (slice_index c gate ≡ 1)))) }
+    ensures image { OnOk result (Tells (D.holds disk.new) (D.may_leave disk.old)) }
+    ensures settled { OnOk result (Only (D.holds disk.new) (D.may_leave disk.new)) }
+    ensures up { OnOk result (IsTrue (D.up disk.new)) }
+    ensures images { NoMore (D.may_leave disk.old) (D.may_leave disk.new) }
+    ensures any_moment { LeavesOnly D.moment D.left_since disk.old disk.new (D.may_leave disk.old) }
+    ensures counts { (D.downs disk.old ≤ D.downs disk.new) × (D.deads disk.old ≤ D.deads disk.new) }
+    ensures dead { IsErrOf result RestartFault.Dead → Rose (D.deads disk.old) (D.deads disk.new) }
+    ensures down { IsErrOf result RestartFault.Down → Rose (D.downs disk.old) (D.downs disk.new) }
+{
+    if disk.restart().is_err() {
+        return Err(RestartFault::Dead);
+    }
+    let mut byte = [0];
+    match disk.read(gate, &mut byte) {
+        Ok(n) => Ok(n == 1 && byte[0] == 1),
+        Err(_) => Err(RestartFault::Down),
+    }
+}

@@ -1,0 +1,131 @@
+//! Reading a disk whole, and making it a journal.
+ghost use Rattle.std.specs.Prelude.{◌≡◌, ◌≢◌, ◌⊎◌, ◌≤◌, ◌<◌, [], ◌∷◌, List, ℕ, length, take, slice_index, IfOk, OnOk, OnErr, IsErrOf, IsTrue, Err, true, false};
+ghost use Rattle.dap_bytes.specs.Causes.{Rose};
+ghost use Rattle.dap_disk.specs.Disk.{Tells, NoMore, LeavesOnly, Only, of_told};
+ghost use Rattle.report_journal.specs.Journal.{Closed, NoJournal, Stands};
+ghost use Rattle.report_journal.specs.Log.{contents};
+ghost use Rattle.report_journal.specs.Reading.{SameRecords, is_fresh, opened};
+
+use crate::LogFault;
+use crate::grammar::parse;
+use dap_disk::{Disk, Down, StoreFault, cut_synced, write_synced};
+use std::alloc::Global;
+
+/// Fills a buffer from a place on, as far as the disk goes, and says how far.
+fn read_into<D: Disk>(disk: &mut D, buf: &mut [u8]) -> Result<usize, Down>
+    requires { IsTrue (D.up disk.old) }
+    ensures within { IfOk result (λ n. n ≤ length buf.old) }
+    ensures told { IfOk result (λ n. Tells (D.holds disk.old) (λ c. (take n buf.new ≡ take n c) × (n ≤ length c) × (length buf.old ≤ length c → n ≡ length buf.old))) }
+    ensures same { D.holds disk.new ≡ D.holds disk.old }
+    ensures images { NoMore (D.may_leave disk.old) (D.may_leave disk.new) }
+    ensures any_moment { LeavesOnly D.moment D.left_since disk.old disk.new (D.may_leave disk.old) }
+    ensures up { OnOk result (IsTrue (D.up disk.new)) }
+    ensures counts { (D.downs disk.old ≤ D.downs disk.new) × (D.deads disk.old ≤ D.deads disk.new) }
+    ensures cause { OnErr result (Rose (D.downs disk.old) (D.downs disk.new)) }
+{
+    let mut at = 0;
+    while at < buf.len() {
+        let end = buf.len();
+        let n = disk.read(at as u64, &mut buf[at..end])?;
+        if n == 0 {
+            return Ok(at);
+        }
+        at += n;
+    }
+    Ok(at)
+}
+
+/// All that the disk holds.
+fn read_all<D: Disk>(alloc: Global, disk: &mut D) -> Result<Vec<u8>, LogFault>
+    requires { IsTrue (D.up disk.old) }
+    ensures told { IfOk result (λ v. Tells (D.holds disk.old) (λ c. v.items ≡ c)) }
+    ensures same { D.holds disk.new ≡ D.holds disk.old }
+    ensures images { NoMore (D.may_leave disk.old) (D.may_leave disk.new) }
+    ensures any_moment { LeavesOnly D.moment D.left_since disk.old disk.new (D.may_leave disk.old) }
+    ensures up { OnOk result (IsTrue (D.up disk.new)) }
+    ensures memory { result ≡ Err LogFault.NoMemory → IsTrue (D.up disk.new) }
+    ensures counts { (D.downs disk.old ≤ D.downs disk.new) × (D.deads disk.old ≤ D.deads disk.new) }
+    ensures cause { result ≡ Err LogFault.Down → Rose (D.downs disk.old) (D.downs disk.new) }
+    ensures read { (at : ℕ) → result ≡ Err (LogFault.NotAJournal at) → ⊥ }
+{
+    let Ok(size) = disk.len() else {
+        return Err(LogFault::Down);
+    };
+    let mut file = Vec::new(alloc);
+    let Ok(()) = file.resize(size as usize, 0u8) else {
+        return Err(LogFault::NoMemory);
+    };
+    if size == 0 {
+        return Ok(file);
+    }
+    let Ok(n) = read_into(disk, &mut file) else {
+        return Err(LogFault::Down);
+    };
+    file.truncate(n);
+    Ok(file)
+}
+
+/// Makes an empty file, or one of the byte 1, a journal without records.
+fn make<D: Disk>(disk: &mut D, size: usize) -> Result<(), StoreFault>
+    requires up { IsTrue (D.up disk.old) }
+    requires small { size ≤ 1 }
+    requires held { Tells (D.holds disk.old) (λ c. length c ≡ size) }
+    requires images { (c : List ℕ) → D.may_leave disk.old c → length c ≤ 1 }
+    ensures held { OnOk result (Tells (D.holds disk.new) (Closed [] 0)) }
+    ensures file { OnOk result (D.holds disk.new ≡ of_told (λ _. 0 ∷ []) (D.holds disk.old)) }
+    ensures images { OnOk result ((c : List ℕ) → D.may_leave disk.new c → Closed [] 0 c) }
+    ensures up { OnOk result (IsTrue (D.up disk.new)) }
+    ensures any_moment { LeavesOnly D.moment D.left_since disk.old disk.new (λ c. length c ≤ 1) }
+    ensures memory { IsErrOf result StoreFault.NoMemory → IsTrue (D.up disk.new) × Tells (D.holds disk.new) (λ c. length c ≤ 1) }
+    ensures counts { (D.downs disk.old ≤ D.downs disk.new) × (D.deads disk.old ≤ D.deads disk.new) }
+    ensures cause { IsErrOf result StoreFault.Down → Rose (D.downs disk.old) (D.downs disk.new) }
+{
+    if size > 0 {
+        cut_synced(disk, 0)?;
+    }
+    write_synced(disk, 0, &[0])?;
+    Ok(())
+}
+
+/// Whether a file is empty or the byte 1, and so stands for no records as it is.
+fn is_fresh(file: &[u8]) -> bool
+    ensures is { result ≡ is_fresh file.now }
+    ensures fresh { result ≡ true → length file.now ≤ 1 }
+    ensures used { result ≡ false → (0 < length file.now) × (length file.now ≤ 1 → slice_index file.now 0 ≢ 1) }
+{
+    match file {
+        [] | [1] => true,
+        _ => false,
+    }
+}
+
+/// Reads the records and the place of the gate behind them, and makes a fresh disk a journal.
+pub(crate) fn start<D: Disk>(alloc: Global, disk: &mut D) -> Result<(Vec<Vec<u8>>, usize), LogFault>
+    requires { IsTrue (D.up disk.old) }
+    ensures held { IfOk result (λ r. Tells (D.holds disk.new) (Closed (contents r.0.items) r.1)) }
+    ensures images { IfOk result (λ r. (c : List ℕ) → D.may_leave disk.new c → Closed (contents r.0.items) r.1 c) }
+    ensures records { IfOk result (λ r. Tells (D.holds disk.old) (Stands (contents r.0.items))) }
+    ensures file { IfOk result (λ _. D.holds disk.new ≡ of_told opened (D.holds disk.old)) }
+    ensures up { OnOk result (IsTrue (D.up disk.new)) }
+    ensures any_moment { LeavesOnly D.moment D.left_since disk.old disk.new (λ c. D.may_leave disk.old c ⊎ SameRecords (D.holds disk.old) c) }
+    ensures none { (at : ℕ) → result ≡ Err (LogFault.NotAJournal at) → Tells (D.holds disk.old) (NoJournal at) × (D.holds disk.new ≡ D.holds disk.old) × IsTrue (D.up disk.new) }
+    ensures memory { result ≡ Err LogFault.NoMemory → IsTrue (D.up disk.new) × Tells (D.holds disk.new) (SameRecords (D.holds disk.old)) }
+    ensures cause { result ≡ Err LogFault.Down → Rose (D.downs disk.old) (D.downs disk.new) }
+    ensures counts { (D.downs disk.old ≤ D.downs disk.new) × (D.deads disk.old ≤ D.deads disk.new) }
+{
+    let Ok(()) = disk.sync() else {
+        return Err(LogFault::Down);
+    };
+    let file = match read_all(alloc, disk) {
+        Ok(file) => file,
+        Err(fault) => return Err(fault),
+    };
+    if is_fresh(&file) {
+        return match make(disk, file.len()) {
+            Ok(()) => Ok((Vec::new(alloc), 0)),
+            Err(StoreFault::Down) => Err(LogFault::Down),
+            Err(StoreFault::NoMemory) => Err(LogFault::NoMemory),
+        };
+    }
+    parse(alloc, &file)
+}

@@ -1,0 +1,218 @@
+//! Journals on a disk in memory: what they leave, at stops and in files from outside.
+ghost use Rattle.std.specs.Prelude.{◌≡◌, ◌≤◌, ◌+◌, ◌∷◌, [], length, IfOk, IsTrue};
+ghost use Rattle.report_journal.specs.Journal.{body};
+ghost use Rattle.report_journal.specs.Log.{contents};
+
+use crate::*;
+use dap_disk::{Disk, Image, MemDisk, Stop};
+use std::alloc::Global;
+use std::process::Abort;
+use std::test::Fail;
+
+/// A block of one record, which opens a leader's first lane.
+const ONE: [u8; 14] = [1, 0, 0, 0, 8, 0, 0, 0, 4, 1, 1, 1, 0, 0];
+
+/// That block, then one of the records `ab` and the empty one.
+const TWO: [u8; 29] = [
+    1, 0, 0, 0, 8, 0, 0, 0, 4, 1, 1, 1, 0, 1, 0, 0, 0, 10, 0, 0, 0, 2, b'a', b'b', 0, 0, 0, 0, 0,
+];
+
+fn one_record(alloc: Global) -> Result<Vec<Vec<u8>>, Fail>
+    ensures { IfOk result (λ r. contents r.items ≡ (1 ∷ 1 ∷ 1 ∷ 0 ∷ []) ∷ []) }
+{
+    let mut records = Vec::new(alloc);
+    records.push([1, 1, 1, 0].to_vec(alloc)?)?;
+    Ok(records)
+}
+
+fn three_records(alloc: Global) -> Result<Vec<Vec<u8>>, Fail>
+    ensures { IfOk result (λ r. contents r.items ≡ (5 ∷ []) ∷ [] ∷ (1 ∷ 1 ∷ []) ∷ []) }
+{
+    let mut records = Vec::new(alloc);
+    records.push([5].to_vec(alloc)?)?;
+    records.push(Vec::new(alloc))?;
+    records.push([1, 1].to_vec(alloc)?)?;
+    Ok(records)
+}
+
+fn zeros(alloc: Global, n: usize) -> Result<Vec<Vec<u8>>, Fail>
+    requires { n ≤ 16777212 }
+    ensures one { IfOk result (λ r. length r.items ≡ 1) }
+    ensures size { IfOk result (λ r. length (body (contents r.items)) ≡ 4 + n) }
+{
+    let mut records = Vec::new(alloc);
+    records.push(vec![in alloc; 0; n]?)?;
+    Ok(records)
+}
+
+fn disk(alloc: Global, bytes: &[u8], stops: &[Stop]) -> Result<MemDisk, Fail>
+    ensures { IfOk result (λ d. IsTrue (⟦<MemDisk as Disk>⟧.up d)) }
+{
+    Ok(MemDisk::new(alloc, bytes.to_vec(alloc)?, stops.to_vec(alloc)?, None))
+}
+
+/// How many records a file stands for, or why it is refused.
+fn reads(alloc: Global, bytes: &[u8]) -> Result<Result<usize, LogFault>, Fail> {
+    match Log::open(alloc, disk(alloc, bytes, &[])?) {
+        Ok(log) => Ok(Ok(log.records().len())),
+        Err(refused) => Ok(Err(refused.fault)),
+    }
+}
+
+#[test]
+fn a_fresh_disk_takes_a_record(rt: HostRuntime) -> Result<(), Fail> {
+    let alloc = rt.alloc();
+    let Ok(fresh) = Log::open(alloc, disk(alloc, &[], &[])?) else {
+        return Err("no journal".into());
+    };
+    let made = fresh.into_disk();
+    assert_eq!(rt; made.bytes(), [0].as_slice());
+    let Ok(mut log) = Log::open(alloc, disk(alloc, &[1], &[])?) else {
+        return Err("no journal".into());
+    };
+    let records = one_record(alloc)?;
+    assert_eq!(rt; records.len(), 1);
+    let outcome = log.append(alloc, &records);
+    assert_eq!(rt; outcome, Ok(()));
+    assert_eq!(rt; (log.up(), log.records().len()), (true, 1));
+    let written = log.into_disk();
+    assert_eq!(rt; written.bytes(), ONE.as_slice());
+    Ok(())
+}
+
+/// How many records of a first block of one a restart finds, where the disk stops in the gate's write.
+fn found_at_the_gate(rt: &impl Abort, alloc: Global, image: Image) -> Result<usize, Fail> {
+    let Ok(mut log) = Log::open(alloc, disk(alloc, &[], &[Stop { call: 7, image }])?) else {
+        return Err("no journal".into());
+    };
+    let records = one_record(alloc)?;
+    assert_eq!(rt; records.len(), 1);
+    let outcome = log.append(alloc, &records);
+    assert_eq!(rt; outcome, Err(AppendFault::Down));
+    let restarted = log.restart();
+    assert_eq!(rt; restarted, Ok(()));
+    Ok(log.records().len())
+}
+
+#[test]
+fn the_gate_decides(rt: HostRuntime) -> Result<(), Fail> {
+    let alloc = rt.alloc();
+    for (image, want) in [(Image::Old, 0), (Image::New, 1), (Image::Fill(7), 0)] {
+        assert_eq!(rt; found_at_the_gate(&rt, alloc, image)?, want, "{image:?}");
+    }
+    Ok(())
+}
+
+/// How many records of a first block of three are there where the disk stops at a call, once it came back, and once
+/// the journal was opened anew.
+fn found(
+    rt: &impl Abort,
+    alloc: Global,
+    call: u64,
+    image: Image,
+) -> Result<(usize, Result<usize, LogFault>), Fail> {
+    let mut log = match Log::open(alloc, disk(alloc, &[], &[Stop { call, image }])?) {
+        Ok(log) => log,
+        Err(mut refused) => {
+            assert_eq!(rt; refused.fault, LogFault::Down);
+            let restarted = refused.disk.restart();
+            assert_eq!(rt; restarted, Ok(()));
+            return Ok((0, reads(alloc, refused.disk.bytes())?));
+        }
+    };
+    let records = three_records(alloc)?;
+    assert_eq!(rt; records.len(), 3);
+    let outcome = log.append(alloc, &records);
+    assert_eq!(rt; outcome, Err(AppendFault::Down));
+    let restarted = log.restart();
+    assert_eq!(rt; restarted, Ok(()));
+    let count = log.records().len();
+    let left = log.into_disk();
+    Ok((count, reads(alloc, left.bytes())?))
+}
+
+#[test]
+fn a_block_is_whole_or_absent(rt: HostRuntime) -> Result<(), Fail> {
+    let alloc = rt.alloc();
+    for call in 1..9 {
+        for (image, opens) in [
+            (Image::Old, false),
+            (Image::New, true),
+            (Image::Fill(1), true),
+            (Image::Fill(7), false),
+        ] {
+            let want = if call >= 7 && opens { 3 } else { 0 };
+            assert_eq!(rt;
+                found(&rt, alloc, call, image)?,
+                (want, Ok(want)),
+                "{call} {image:?}"
+            );
+        }
+    }
+    Ok(())
+}
+
+#[test]
+fn a_block_of_the_greatest_size_is_taken(rt: HostRuntime) -> Result<(), Fail> {
+    let alloc = rt.alloc();
+    let Ok(mut log) = Log::open(alloc, disk(alloc, &[], &[])?) else {
+        return Err("no journal".into());
+    };
+    let records = zeros(alloc, MAX_BLOCK - 4)?;
+    let outcome = log.append(alloc, &records);
+    assert_eq!(rt; outcome, Ok(()));
+    let written = log.into_disk();
+    assert_eq!(rt; written.bytes().len(), MAX_BLOCK + 6);
+    assert_eq!(rt; reads(alloc, written.bytes())?, Ok(1));
+    Ok(())
+}
+
+#[test]
+fn a_file_cut_short_is_refused_at_its_open_gate(rt: HostRuntime) -> Result<(), Fail> {
+    let alloc = rt.alloc();
+    for (from, to, want) in [
+        (0, 2, Ok(0)),
+        (2, 14, Err(LogFault::NotAJournal { at: 0 })),
+        (14, 29, Err(LogFault::NotAJournal { at: 13 })),
+        (29, 30, Ok(3)),
+    ] {
+        for length in from..to {
+            let file = TWO.get(..length).ok_or("too long")?;
+            assert_eq!(rt; reads(alloc, file)?, want, "{length}");
+        }
+    }
+    Ok(())
+}
+
+#[test]
+fn files_are_read_by_their_gates(rt: HostRuntime) -> Result<(), Fail> {
+    let alloc = rt.alloc();
+    let refused = Err(LogFault::NotAJournal { at: 0 });
+    for (file, want) in [
+        ([1, 0].as_slice(), refused),
+        (&[1], Ok(0)),
+        (&[7], Ok(0)),
+        (&[0, 1, 9], Ok(0)),
+        (&[1, 0, 0, 0, 0, 0], refused),
+        (&[1, 0, 0, 0, 3, 0, 0, 0, 0], refused),
+        (&[1, 0, 0, 0, 4, 0, 0, 0, 0, 0], Ok(1)),
+        (&[1, 0, 0, 0, 5, 0, 0, 0, 0, 9, 0], refused),
+        (&[1, 0, 0, 0, 5, 0, 0, 0, 1, 9, 2], Ok(1)),
+        (&[1, 1, 0, 0, 1, 0, 0, 0, 0], refused),
+    ] {
+        assert_eq!(rt; reads(alloc, file)?, want, "{file:?}");
+    }
+    Ok(())
+}
+
+fn crosses_threads<T: Send>() {}
+
+/// A log goes to another thread where its disk does.
+fn a_log_crosses_threads<D: Disk + Send>() {
+    crosses_threads::<Log<D>>()
+}
+
+#[test]
+fn a_log_over_memory_crosses_threads() {
+    a_log_crosses_threads::<MemDisk>()
+}
