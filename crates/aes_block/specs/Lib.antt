@@ -1,0 +1,5 @@
+pub mod Byte
+pub mod State
+pub mod Schedule
+pub mod Cipher
+pub mod Columns

@@ -1,0 +1,3 @@
+mod Blocks
+pub mod Drawing
+pub mod Entries

@@ -1,0 +1,4 @@
+pub mod Cmac
+pub mod Stream
+pub mod Drawn
+pub mod Fault

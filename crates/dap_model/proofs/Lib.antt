@@ -1,0 +1,4 @@
+pub mod ChangeLaws
+pub mod CountLaws
+pub mod MeasureLaws
+pub mod OnceLaws

@@ -1,0 +1,7 @@
+pub mod Changes
+pub mod Counts
+pub mod Kinds
+pub mod Printed
+pub mod Run
+pub mod State
+pub mod Step

@@ -1,0 +1,39 @@
+-- How a printed line is spelled.
+use Rattle.std.specs.Prelude.{ℕ, List, [], ◌∷◌, ◌++◌, codes}
+use Rattle.std.specs.Fmt.{decimal}
+use Rattle.std.specs.List.{flat_map}
+use Rattle.dap_model.specs.declared.printed.Answer.{Answer}
+use Rattle.dap_model.specs.declared.printed.Answer.TheVariants.{Count}
+use Rattle.dap_model.specs.declared.printed.Cause.{Cause}
+use Rattle.dap_model.specs.declared.printed.Cause.TheVariants as cause
+use Rattle.dap_model.specs.declared.printed.Printed.{Printed}
+use Rattle.dap_model.specs.declared.printed.Printed.TheVariants.{Collected, Small, Refused}
+
+-- the word of a cause
+abbrev pub cause_word : Cause → List ℕ
+cause_word cause.Task = codes "task"
+cause_word cause.Value = codes "value"
+cause_word cause.Early = codes "early"
+cause_word cause.Conflict = codes "conflict"
+cause_word cause.Collected = codes "collected"
+cause_word cause.Start = codes "start"
+
+-- how an answer is spelled, after the counts
+abbrev pub answer_text : Answer → List ℕ
+answer_text (Count n) = codes " count " ++ decimal n
+
+-- a line, without its end
+abbrev pub line_text : Printed → List ℕ
+line_text (Collected name start what) =
+    codes "collected " ++ name ++ codes " " ++ decimal start ++ codes " reports " ++ decimal what.reports
+    ++ codes " rejected " ++ decimal what.rejected ++ answer_text what.answer
+line_text (Small name start reports) = codes "small " ++ name ++ codes " " ++ decimal start ++ codes " reports " ++ decimal reports
+line_text (Refused line why) = codes "refused " ++ decimal line ++ codes " " ++ cause_word why
+
+-- a line with its end
+abbrev pub spelling : Printed → List ℕ
+spelling line = line_text line ++ 10 ∷ []
+
+-- lines, one after another
+abbrev pub text_of : List Printed → List ℕ
+text_of lines = flat_map spelling lines

@@ -1,0 +1,25 @@
+use Rattle.std.proofs.Common.{◌≡◌, ◌+◌, ◌-◌, ◌^◌, ◌<◌, ℕ, Bool, true, ◌&&◌, nat_lt, subst, sym, arith}
+use Rattle.std.proofs.lemmas.Bool.Decides.{nat_tests}
+use Rattle.std.specs.List.{list_any}
+use Rattle.dap_bytes.specs.Causes.{Rose}
+use Rattle.dap_outside.proofs.PlanLemmas.{calls_among-le, calls_among-rises}
+use Rattle.dap_outside.specs.Plan.{calls_among}
+use Rattle.dap_outside.proofs.plan.Plan.count.Goals as goal
+
+front : (n m : ℕ) (found : Bool) → (nat_lt n m && found) ≡ true → n < m
+front n m found h = grind (arith, nat_tests)
+
+rest : (n m : ℕ) (found : Bool) → (nat_lt n m && found) ≡ true → found ≡ true
+rest n m found h = grind (arith, nat_tests)
+
+pub returns-clause-later : goal.returns-clause-later
+returns-clause-later c = calls_among-le c.args.self.now.calls c.saturating_add-self.result c.args.self.now.fails.items (omega arith)
+
+pub returns-clause-risen : goal.returns-clause-risen
+returns-clause-risen c = λ listed.
+    let calls = c.args.self.now.calls in
+    let fails = c.args.self.now.fails.items in
+    let below : calls < 2 ^ 64 - 1 = front calls (2 ^ 64 - 1) _ listed in
+    let next : c.saturating_add-self.result ≡ calls + 1 = omega arith in
+    let more = calls_among-rises calls fails (rest calls (2 ^ 64 - 1) _ listed) in
+    rw next (omega (arith, more))

@@ -1,0 +1,4 @@
+pub mod Devices
+pub mod FateList
+pub mod Fates
+pub mod Plan

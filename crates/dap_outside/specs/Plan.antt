@@ -1,0 +1,21 @@
+-- The faults of a device in memory, from the calls that were listed and made.
+use Rattle.std.specs.Prelude.{ℕ, ◌+◌, ◌-◌, ◌^◌, List, [], ◌∷◌, Bool, ◌&&◌, cond, nat_eq, nat_le, nat_lt, min}
+use Rattle.std.specs.List.{list_any}
+use Rattle.dap_outside.specs.declared.plan.Plan.{Plan}
+
+-- how many of the listed calls are among the first n
+abbrev pub calls_among : ℕ → List ℕ → ℕ
+calls_among n [] = 0
+calls_among n (call ∷ listed) = cond (nat_le call n) 1 0 + calls_among n listed
+
+-- how many of the listed calls were made
+abbrev pub failed_calls : Plan → ℕ
+failed_calls p = calls_among p.calls p.fails.items
+
+-- how many calls were made, up to the end of the count
+abbrev pub calls_after : ℕ → ℕ
+calls_after calls = min (calls + 1) (2 ^ 64 - 1)
+
+-- the next call is listed
+abbrev pub fails_next : Plan → Bool
+fails_next p = nat_lt p.calls (2 ^ 64 - 1) && list_any (λ call. nat_eq call (p.calls + 1)) p.fails.items

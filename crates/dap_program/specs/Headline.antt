@@ -1,0 +1,67 @@
+-- What a call of the program comes to.
+use Rattle.std.specs.Prelude.{◌≡◌, ◌⊎◌, ℕ, ◌<◌, List, [], ◌∷◌, map, length, codes, nat_lt, if◌then◌else◌, Option, Some, None, Result, Ok, Err, String, string_bytes}
+use Rattle.std.specs.Io.KnownBytes.{Appends}
+use Rattle.std.specs.Str.{bytes_eq}
+use Rattle.std.specs.declared.alloc.Global.{Global}
+use Rattle.dap_script.specs.Script.{script_of}
+use Rattle.dap_script.specs.declared.line.Line.{Line}
+use Rattle.dap_model.specs.Run.{model_text}
+use Rattle.dap_program.specs.Transfer.{AppendsPart}
+use Rattle.dap_program.specs.declared.status.Status.{Status}
+use Rattle.dap_program.specs.declared.status.Status.TheVariants.{Done, Usage, NotYet, ReadFault, WriteFault, Limit, NoMemory}
+
+-- the words as texts
+abbrev pub word_texts : List (String Global) → List (List ℕ)
+word_texts words = map string_bytes words
+
+-- The first word that no command has there, counted from 1. The one command is `run`.
+abbrev pub faulty_word_of : List (List ℕ) → Option ℕ
+faulty_word_of [] = Some 1
+faulty_word_of (word ∷ []) = if bytes_eq word (codes "run") then None else Some 1
+faulty_word_of (word ∷ next ∷ more) = if bytes_eq word (codes "run") then Some 2 else Some 1
+
+-- the status of a script that reads, or the first line that is refused
+abbrev pub read_status : Result (List Line) ℕ → Status
+read_status (Ok lines) = Done
+read_status (Err line) = NotYet line
+
+-- what a script that reads prints
+abbrev pub read_text : Result (List Line) ℕ → List ℕ
+read_text (Ok lines) = model_text lines
+read_text (Err line) = []
+
+-- what a script comes to, where nothing fails
+abbrev pub status_of : List ℕ → Status
+status_of input = if nat_lt 67108864 (length input) then Limit 0 5 else read_status (script_of input)
+
+-- what a script prints, where nothing fails
+abbrev pub output_of : List ℕ → List ℕ
+output_of input = if nat_lt 67108864 (length input) then [] else read_text (script_of input)
+
+-- the script has more bytes than the limit, which is number 5 and names no line
+abbrev pub IsTooLong : List ℕ → ℕ → ℕ → Type 0
+IsTooLong input line limit = (line ≡ 0) × (limit ≡ 5) × (67108864 < length input)
+
+-- what may come at any time: a fault of a device, or want of memory
+abbrev pub IsStop : Status → Type 0
+IsStop status = (status ≡ ReadFault) ⊎ (status ≡ WriteFault) ⊎ (status ≡ NoMemory)
+
+-- The held bytes grew by the text on Done, else by a front of it.
+abbrev pub Prints : Status → Option (List ℕ) → Option (List ℕ) → List ℕ → Type 0
+Prints Done old new text = Appends old new text
+Prints (Usage word) old new text = AppendsPart old new text
+Prints (NotYet line) old new text = AppendsPart old new text
+Prints ReadFault old new text = AppendsPart old new text
+Prints WriteFault old new text = AppendsPart old new text
+Prints (Limit line limit) old new text = AppendsPart old new text
+Prints NoMemory old new text = AppendsPart old new text
+
+-- answers that come before anything is printed
+abbrev pub IsSilent : Status → Type 0
+IsSilent Done = ⊥
+IsSilent (Usage word) = Unit {0}
+IsSilent (NotYet line) = Unit {0}
+IsSilent ReadFault = Unit {0}
+IsSilent WriteFault = ⊥
+IsSilent (Limit line limit) = Unit {0}
+IsSilent NoMemory = ⊥

@@ -1,0 +1,85 @@
+//! The two aggregators of a private measurement service, leader and helper, run on a script.
+//!
+//! `main` makes the devices, calls `dap_alone`, prints the status's text and ends with its number. The contract of
+//! `dap_alone` says what is printed.
+#![tactic(auto)]
+
+mod adapters;
+mod direct;
+mod program;
+mod report;
+mod shares;
+mod status;
+mod sums;
+mod transfer;
+
+use crate::adapters::{Reading, Writing};
+use crate::program::dap_alone;
+use crate::status::Status;
+use std::process::ExitCode;
+use std::{env, io};
+
+const VERSION: &str = "dap 0.1.0\n";
+
+const HELP: &str = "Usage: dap run < SCRIPT
+
+Runs the two aggregators of a private measurement service, a leader and a helper,
+on the script that stands on standard input, and prints what its lines print.
+
+  dap run        run the script
+  dap --help     print this text
+  dap --version  print the version
+
+Lines of a script, each ended by a line feed:
+  task NAME count MIN PRECISION     a task, in the first line: batches of PRECISION
+                                    units of time, collected from MIN reports on
+  measure NAME ID TIME VALUE SEED   a client's measurement, 0 or 1;
+                                    ID and SEED are 32 hex digits
+  collect NAME START                the sum of a batch, in the last line
+
+The exit status is 0 where the script was run to its end. Else a line on standard
+error says what stopped it.
+";
+
+/// The words of the command line after the program's name. A word that isn't UTF-8 is no command.
+fn words(rt: &HostRuntime) -> Result<Vec<String>, Status> {
+    match env::args(rt) {
+        Ok(args) => Ok(args.skip(1).collect(rt.alloc())?),
+        Err(error) if error.kind() == io::ErrorKind::OutOfMemory => Err(Status::NoMemory),
+        Err(_) => Err(Status::Usage { word: 1 }),
+    }
+}
+
+/// Prints a text of main's own.
+fn tell(rt: &HostRuntime, text: &str) -> Status {
+    match print!(rt; "{text}") {
+        Ok(()) => Status::Done,
+        Err(_) => Status::WriteFault,
+    }
+}
+
+fn answer(rt: &HostRuntime, words: &[String]) -> Status {
+    match words {
+        [word] if word.as_str() == "--help" => tell(rt, HELP),
+        [word] if word.as_str() == "--version" => tell(rt, VERSION),
+        _ => {
+            let mut script = Reading::new(rt.reader());
+            let mut out = Writing::new(io::writer(rt));
+            dap_alone(rt.alloc(), words, &mut script, &mut out)
+        }
+    }
+}
+
+fn main(rt: HostRuntime) -> ExitCode {
+    let status = match words(&rt) {
+        Ok(words) => answer(&rt, &words),
+        Err(status) => status,
+    };
+    if status != Status::Done {
+        let _ = eprintln!(rt; "dap: {status}");
+    }
+    ExitCode::from(status.number())
+}
+
+#[cfg(test)]
+mod tests;

@@ -1,0 +1,109 @@
+//! How a call of the program ends.
+
+use dap_outside::{Failed, SinkFault};
+use dap_script::ScriptFault;
+use std::alloc::AllocError;
+use std::fmt;
+
+/// How a call of the program ends.
+#[derive(Clone, Copy, Debug, PartialEq, Eq)]
+pub enum Status {
+    /// The script was read to its end and all was printed.
+    Done,
+    /// The words are no command from this word on, counted from 1.
+    Usage { word: u32 },
+    /// The script isn't of the form that is run, from this line on, counted from 1.
+    NotYet { line: u32 },
+    /// The source of the script failed.
+    ReadFault,
+    /// The sink failed.
+    WriteFault,
+    /// A limit would be passed at this line, 0 for the script as a whole.
+    Limit { line: u32, limit: u8 },
+    /// There was no memory.
+    NoMemory,
+}
+
+impl Status {
+    ghost use Rattle.std.specs.Prelude.{◌≡◌};
+    ghost use Rattle.dap_program.specs.Status.{number_of};
+
+    /// The status with which the process ends.
+    pub fn number(self) -> u8
+        ensures { result ≡ number_of self }
+    {
+        match self {
+            Status::Done => 0,
+            Status::Usage { .. } => 1,
+            Status::ReadFault => 4,
+            Status::WriteFault => 5,
+            Status::Limit { .. } => 11,
+            Status::NoMemory => 12,
+            Status::NotYet { .. } => 13,
+        }
+    }
+}
+
+impl fmt::Display for Status {
+    fn fmt<W: fmt::Write>(&self, f: &mut fmt::Formatter<W>) -> fmt::Result {
+        match self {
+            Status::Done => write!(f, "done"),
+            Status::Usage { word } => write!(f, "usage: word {word}"),
+            Status::NotYet { line } => write!(f, "not yet: line {line}"),
+            Status::ReadFault => write!(f, "read fault"),
+            Status::WriteFault => write!(f, "write fault"),
+            Status::Limit { line, limit } => write!(f, "limit {limit} at line {line}"),
+            Status::NoMemory => write!(f, "no memory"),
+        }
+    }
+}
+
+impl From<AllocError> for Status {
+    ghost use Rattle.std.specs.Prelude.{◌≡◌};
+    ghost use Rattle.dap_program.specs.declared.status.Status.TheVariants.{NoMemory};
+
+    ghost from_gives = { λ _ e. e ≡ NoMemory };
+
+    fn from(_: AllocError) -> Self {
+        Status::NoMemory
+    }
+}
+
+impl From<Failed> for Status {
+    ghost use Rattle.std.specs.Prelude.{◌≡◌};
+    ghost use Rattle.dap_program.specs.declared.status.Status.TheVariants.{ReadFault};
+
+    ghost from_gives = { λ _ e. e ≡ ReadFault };
+
+    fn from(_: Failed) -> Self {
+        Status::ReadFault
+    }
+}
+
+impl From<SinkFault> for Status {
+    ghost use Rattle.std.specs.Prelude.{◌≡◌};
+    ghost use Rattle.dap_program.specs.Status.{after_sink};
+
+    ghost from_gives = { λ fault e. e ≡ after_sink fault };
+
+    fn from(fault: SinkFault) -> Self {
+        match fault {
+            SinkFault::Failed => Status::WriteFault,
+            SinkFault::NoMemory => Status::NoMemory,
+        }
+    }
+}
+
+impl From<ScriptFault> for Status {
+    ghost use Rattle.std.specs.Prelude.{◌≡◌};
+    ghost use Rattle.dap_program.specs.Status.{after_script};
+
+    ghost from_gives = { λ fault e. e ≡ after_script fault };
+
+    fn from(fault: ScriptFault) -> Self {
+        match fault {
+            ScriptFault::Refused { line } => Status::NotYet { line },
+            ScriptFault::NoMemory => Status::NoMemory,
+        }
+    }
+}

@@ -1,0 +1,6 @@
+pub mod Fields
+pub mod Line
+pub mod Reads
+pub mod Script
+pub mod Spelling
+pub mod Words

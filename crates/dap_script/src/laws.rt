@@ -1,0 +1,22 @@
+//! What is read is spelled so, and what is spelled so is read.
+
+ghost use Rattle.std.specs.Prelude.{◌≡◌, ◌↔◌, List, ℕ, Some, Ok, Err};
+ghost use Rattle.dap_script.specs.Line.{line_of};
+ghost use Rattle.dap_script.specs.Script.{script_of};
+ghost use Rattle.dap_script.specs.Spelling.{SpellsLine, SpellsScript, IsFirstFault};
+ghost use Rattle.dap_script.specs.declared.line.Line.{Line as PlainLine};
+
+/// A law: a text is read as a line exactly where it spells this line, with each part in its range.
+pub fn lines_are_spelled()
+    ensures { (text : List ℕ) (line : PlainLine) → (line_of text ≡ Some line) ↔ SpellsLine text line }
+{}
+
+/// A law: bytes are read as a script's lines exactly where they spell these lines, in this order.
+pub fn scripts_are_spelled()
+    ensures { (bytes : List ℕ) (lines : List PlainLine) → (script_of bytes ≡ Ok lines) ↔ SpellsScript bytes lines }
+{}
+
+/// A law: the line that a refusal names is the first for which the script up to and with it is none.
+pub fn refusals_name_the_first_line()
+    ensures { (bytes : List ℕ) (line : ℕ) → (script_of bytes ≡ Err line) ↔ IsFirstFault bytes line }
+{}

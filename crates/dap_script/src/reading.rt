@@ -1,0 +1,33 @@
+//! Reading a whole script.
+
+ghost use Rattle.std.specs.Prelude.{◌≤◌, ◌+◌, length, IfOk};
+ghost use Rattle.dap_script.specs.Reads.{Reads};
+ghost use Rattle.dap_script.specs.Script.{script_of};
+
+use crate::fault::ScriptFault;
+use crate::line::Line;
+use crate::script::{line_after, lines};
+use std::alloc::Global;
+
+/// The lines of a script, whose bytes are at most 67,108,864.
+///
+/// Refused comes exactly where the bytes are no script: it names the first line, counted from 1, for which the script
+/// up to and with this line is none.
+pub fn read_script(alloc: Global, bytes: &[u8]) -> Result<Vec<Line>, ScriptFault>
+    requires { length bytes.now ≤ 67108864 }
+    ensures lines { Reads result (script_of bytes.now) }
+    ensures count { IfOk result (λ lines. length lines.items ≤ length bytes.now + 1) }
+{
+    let mut script = Vec::new(alloc);
+    for text in &lines(alloc, bytes)? {
+        match line_after(alloc, &script, text)? {
+            Some(line) => script.push(line)?,
+            None => {
+                return Err(ScriptFault::Refused {
+                    line: script.len() as u32 + 1,
+                });
+            }
+        }
+    }
+    Ok(script)
+}

@@ -1,0 +1,13 @@
+-- Two ends that have met.
+use Rattle.std.specs.Prelude.{◌≡◌, ◌≤◌, ◌+◌, length}
+use Rattle.dap_wire.specs.Link.{Link, known}
+
+-- both rings as read at either end are what was sent and not received: what waits is known in order, it is at most
+-- the ring's 64 places, and each place where nothing waits is known to be free
+pub record HaveMet {T : Type 0} (a b : Link T) : Type 0 where
+  pub there : known b ≡ a.sent
+  pub back : known a ≡ b.sent
+  pub places_there : length b.waiting ≤ 64
+  pub places_back : length a.waiting ≤ 64
+  pub room_there : 64 ≤ a.room + length b.waiting
+  pub room_back : 64 ≤ b.room + length a.waiting

@@ -1,0 +1,5 @@
+use Rattle.field128.specs.Laws.{is_residue}
+use Rattle.field128.proofs.field.Field128Field.mul.Goals as goal
+
+pub returns : goal.returns
+returns c = is_residue _ _ c.multiply_numbers.ensures

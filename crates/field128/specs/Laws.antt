@@ -1,0 +1,76 @@
+-- What the trait asks of this field: the numbers below p are its elements, and its generator's order is computed.
+use Rattle.std.proofs.Common.{◌≡◌, ℕ, ◌-◌, ◌*◌, ◌%◌, ◌<◌, sym, ap, ◌∙◌, refl, lit<}
+use Rattle.std.proofs.Math.Nat.{mod-eq_of_lt}
+use Rattle.field_laws.specs.Ring.{RingLaws, RootLaws, power}
+use Rattle.field_laws.specs.Residues.{Residues, residue_ring, IsModular}
+use Rattle.field_laws.proofs.Modulo.{residue_ring_laws, residue_ring_modular}
+use Rattle.field_laws.proofs.Compute.{power_modulo, power_turns, half_doubled, residue-power, roots_from}
+use Rattle.field128.specs.Modulus.{modulus}
+use Rattle.field128.specs.declared.element.Field128.{Field128}
+use Rattle.field128.specs.Element.{number_of, residue_of, ring_of, generator, root_of_log, half_element}
+use denote.Struct.Props.{props}
+use mathlib.Core.HLevel.{is_prop→PathP}
+
+-- elements of one number are one
+pub same : (a b : Field128) → a.number ≡ b.number → a ≡ b
+same a b e =
+    let small : (n : ℕ) → IsProp (n < modulus) = λ n. hlevel props in
+    λ i. record { number = e i; below = is_prop→PathP (λ j. e j < modulus) (λ j. small (e j)) a.below b.below i }
+
+-- an element whose number is the rest of n is the residue of n
+pub is_residue : (x : Field128) (n : ℕ) → x.number ≡ n % modulus → x ≡ residue_of n
+unfolding residue_of
+is_residue x n e = same x (residue_of n) e
+
+-- and the other way round
+pub number-residue : (n : ℕ) → (residue_of n).number ≡ n % modulus
+unfolding residue_of
+number-residue n = refl
+
+-- the elements are the numbers below p
+pub residues : Residues modulus number_of residue_of
+residues = record {
+  large = lit< tt;
+  below = λ x. x.below;
+  residue-number = λ x. sym (is_residue x x.number (sym (mod-eq_of_lt x.below)));
+  number-residue = number-residue;
+}
+
+-- the ring is that of the residues
+pub is_residue_ring : ring_of ≡ residue_ring modulus number_of residue_of
+is_residue_ring = refl
+
+-- a commutative ring with one
+pub ring_laws : RingLaws ring_of
+ring_laws = residue_ring_laws residues
+
+-- each result by its number: numbers.add a b is that of a sum
+pub numbers : IsModular modulus number_of ring_of
+numbers = residue_ring_modular residues
+
+-- computed by the check: 7 raised to (2^62 - 7) 2^65, the generator raised to half its order, is p - 1
+pub computed : power_modulo modulus 7 128 (4611686018427387897 * 36893488147419103232) ≡ modulus - 1
+computed = refl
+
+-- so the generator raised to half its order is minus one
+pub generator_turns : power ring_of generator 36893488147419103232 ≡ ring_of.neg ring_of.unit
+unfolding generator
+generator_turns = power_turns residues 128 7 4611686018427387897 36893488147419103232 (lit< tt) computed
+
+-- and its powers are roots of one of order 2 ^ log
+pub root_laws : RootLaws ring_of 16 root_of_log
+unfolding root_of_log
+root_laws = roots_from ring_laws generator 66 16 (lit< tt) generator_turns
+
+-- half doubled is one
+pub half_law : ring_of.add half_element half_element ≡ ring_of.unit
+unfolding half_element
+half_law = half_doubled residues 170141183460469231473432886683950383105 refl
+
+-- the generator's number, computed by the check
+pub generator_is : (x : Field128) → x.number ≡ 145091266659756586618791329697897684742 → x ≡ generator
+unfolding generator
+generator_is x e =
+    is_residue x 145091266659756586618791329697897684742 e
+    ∙ ap residue_of (let k : 145091266659756586618791329697897684742 ≡ power_modulo modulus 7 64 4611686018427387897 = refl in k)
+    ∙ sym (residue-power residues 64 7 4611686018427387897 (lit< tt))

@@ -1,0 +1,5 @@
+use Rattle.field64.specs.Laws.{is_residue}
+use Rattle.field64.proofs.field.Field64Field.neg.Goals as goal
+
+pub returns : goal.returns
+returns c = is_residue _ _ c.negate_number.ensures

@@ -1,0 +1,14 @@
+pub mod Modulo
+pub mod Solve
+pub mod Powers
+pub mod Compute
+pub mod Orders
+pub mod Spelling
+pub mod DoublingSteps
+pub mod Vectors
+pub mod Differences
+pub mod Sums
+pub mod Polynomials
+pub mod Roots
+pub mod Interpolation
+pub mod Logs

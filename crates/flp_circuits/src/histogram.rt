@@ -1,0 +1,106 @@
+ghost use Rattle.std.specs.Prelude.{◌≡◌, ◌≤◌, length, nat_le, position};
+ghost use Rattle.std.specs.List.Sorted.{IsStrictlyIncreasing};
+
+use crate::circuit::{Circuit, EncodeFault};
+use crate::entries::{bit_test, one_hot_at, sum_all, weigh};
+use field_laws::Field;
+use std::alloc::{AllocError, Global};
+use std::marker::PhantomData;
+
+/// The circuit of histograms: a measurement is any number, and falls in the bucket of the first bound that it is not
+/// above, or in the last bucket where it is above all. The bounds, 1 to 63 of them, ascend strictly.
+#[derive(Drop)]
+pub struct Histogram<F> {
+    pub bounds: Vec<u64>,
+    field: PhantomData<F>,
+    pub ghost some_bound: { 1 ≤ length bounds.items },
+    pub ghost few_bounds: { length bounds.items ≤ 63 },
+    pub ghost ascending: { IsStrictlyIncreasing bounds.items },
+}
+
+/// The place of the first bound that `m` is not above.
+fn first_reaching(bounds: &[u64], m: u64) -> Option<usize>
+    ensures { result ≡ position (λ bound. nat_le m bound) bounds.now }
+{
+    bounds.iter().position(|bound| m <= *bound)
+}
+
+impl<F> Histogram<F> {
+    ghost use Rattle.flp_circuits.specs.Kinds.{bucket};
+
+    /// The circuit of histograms between these bounds, which ascend strictly.
+    pub fn new(bounds: Vec<u64>) -> Self
+        requires some_bound { 1 ≤ length bounds.items }
+        requires few_bounds { length bounds.items ≤ 63 }
+        requires ascending { IsStrictlyIncreasing bounds.items }
+        ensures { result.bounds.items ≡ bounds.items }
+    {
+        Histogram {
+            bounds,
+            field: PhantomData,
+        }
+    }
+
+    /// The place of the bucket of `m`.
+    fn bucket(&self, m: u64) -> usize
+        ensures { result ≡ bucket self.now.bounds.items m }
+    {
+        first_reaching(&self.bounds, m).unwrap_or(self.bounds.len())
+    }
+}
+
+impl<E: Field> Circuit for Histogram<E> {
+    ghost use Rattle.flp_circuits.specs.Kinds.{histogram_shape};
+    ghost use Rattle.flp_circuits.specs.Kept.{histogram_keeps, histogram_encodes};
+    ghost use Rattle.std.proofs.Common.{le_trans, lit≤};
+
+    type F = E;
+
+    ghost shape = { λ c. histogram_shape E.ring c.bounds.items };
+
+    ghost laws = { λ c. histogram_keeps E.laws c.bounds.items (le_trans c.few_bounds (lit≤ tt)) };
+
+    ghost codes = { λ c. histogram_encodes E.laws c.bounds.items (le_trans c.few_bounds (lit≤ tt)) };
+
+    fn encode(&self, alloc: Global, m: u64) -> Result<Vec<E>, EncodeFault> {
+        one_hot_at(alloc, self.input_len(), self.bucket(m)).map_err(|_| EncodeFault::NoMemory)
+    }
+
+    fn truncate(&self, alloc: Global, x: &[E]) -> Result<Vec<E>, AllocError> {
+        x.iter().copied().collect(alloc)
+    }
+
+    fn input_len(&self) -> usize {
+        self.bounds.len() + 1
+    }
+
+    fn out_len(&self) -> usize {
+        self.bounds.len() + 1
+    }
+
+    fn joint_len(&self) -> usize {
+        2
+    }
+
+    fn calls(&self) -> usize {
+        self.bounds.len() + 1
+    }
+
+    fn arity(&self) -> usize {
+        1
+    }
+
+    fn input(&self, x: &[E], call: usize, _wire: usize) -> E {
+        x[call - 1]
+    }
+
+    fn gadget(&self, wires: &[E]) -> E {
+        bit_test(wires[0])
+    }
+
+    fn validity(&self, one: E, x: &[E], joint: &[E], results: &[E]) -> E {
+        let r = joint[1];
+        let test = weigh(joint[0], joint[0], results);
+        r.mul(test).add(r.mul(r).mul(sum_all(x).sub(one)))
+    }
+}

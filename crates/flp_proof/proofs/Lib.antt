@@ -1,0 +1,4 @@
+pub mod Orders
+pub mod Gadget
+pub mod Complete
+pub mod Made

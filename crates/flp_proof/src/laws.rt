@@ -1,0 +1,33 @@
+ghost use Rattle.std.specs.Prelude.{◌≡◌, ◌+◌, ◌-◌, ◌*◌, ◌^◌, ◌<◌, ◌≤◌, ℕ, List, length, slice_index_or};
+ghost use Rattle.field_laws.specs.Polynomial.{eval, add_polynomials};
+ghost use Rattle.field_laws.specs.Interpolation.{Interpolates};
+ghost use Rattle.flp_circuits.specs.Shape.{gadget, IsValid};
+ghost use Rattle.flp_proof.specs.Proof.{wire_log, wire_values, wire, wires_at, gadget_polynomial, proof_of, query_of, Accepts};
+
+use flp_circuits::Circuit;
+
+/// A law: the proof of a valid input is accepted on the sum of the queries of its two shares with `half`, however input
+/// and proof are split, at every point. At a root of one alone `query` answers no share.
+pub fn valid_proofs_are_accepted<C: Circuit>(c: &C)
+    ensures { (x y p q seeds joint : List C.F) (t : C.F) → length x ≡ (C.shape c.now).input_len → length y ≡ (C.shape c.now).input_len
+        → length joint ≡ (C.shape c.now).joint_len → length seeds ≡ (C.shape c.now).arity
+        → add_polynomials C.F.ring p q ≡ proof_of C.F.ring C.F.half_of C.F.root_of (C.shape c.now) (add_polynomials C.F.ring x y) seeds
+        → IsValid C.F.ring (C.shape c.now) (add_polynomials C.F.ring x y) joint
+        → Accepts C.F.ring (C.shape c.now) (add_polynomials C.F.ring
+        (query_of C.F.ring C.F.half_of C.F.root_of (C.shape c.now) C.F.half_of x p joint t)
+        (query_of C.F.ring C.F.half_of C.F.root_of (C.shape c.now) C.F.half_of y q joint t)) }
+{}
+
+/// A law: P is the least power of two that is above the number of calls; a wire polynomial has degree below P and its
+/// values at the powers of the root of order P, as no other has; and the gadget polynomial is the gadget of the wire
+/// polynomials at every point, in 2 (P - 1) + 1 coefficients.
+pub fn proofs_meet_their_equations<C: Circuit>(c: &C)
+    ensures above { (C.shape c.now).calls < 2 ^ wire_log (C.shape c.now).calls }
+    ensures least { (log : ℕ) → (C.shape c.now).calls < 2 ^ log → wire_log (C.shape c.now).calls ≤ log }
+    ensures wires { (x seeds : List C.F) (j : ℕ) → Interpolates C.F.ring (C.F.root_of (wire_log (C.shape c.now).calls))
+        (wire_values C.F.ring C.F.half_of C.F.root_of (C.shape c.now) x (slice_index_or seeds j C.F.ring.nought) j)
+        (wire C.F.ring C.F.half_of C.F.root_of (C.shape c.now) x seeds j) }
+    ensures gadget { (x seeds : List C.F) (t : C.F) → eval C.F.ring (gadget_polynomial C.F.ring C.F.half_of C.F.root_of (C.shape c.now) x seeds) t
+        ≡ gadget C.F.ring (C.shape c.now) (wires_at C.F.ring C.F.half_of C.F.root_of (C.shape c.now) x seeds t) }
+    ensures size { (x seeds : List C.F) → length (gadget_polynomial C.F.ring C.F.half_of C.F.root_of (C.shape c.now) x seeds) ≡ 2 * (2 ^ wire_log (C.shape c.now).calls - 1) + 1 }
+{}
