@@ -1,5 +1,5 @@
 -- A drawing number by number: what was found and skipped so far, and what that says of the whole.
-use Rattle.std.proofs.Common.{◌≡◌, ◌≢◌, ℕ, zero, suc, ◌+◌, ◌-◌, ◌*◌, ◌^◌, ◌<◌, ◌≤◌, ◌⊎◌, inl, inr, Bool, true, false, cond, ◌||◌, ◌==◌, nat_lt, nat_le, List, [], ◌∷◌, ◌++◌, length, map, filter, take, drop, Option, Some, None, MatchOption, refl, ap, sym, subst, ◌∙◌, arith, lt-ltb, le-ltb, le-leb, leb-true}
+use Rattle.std.proofs.Common.{◌≡◌, ◌≢◌, ℕ, zero, suc, ◌+◌, ◌-◌, ◌*◌, ◌^◌, ◌<◌, ◌≤◌, ◌⊎◌, inl, inr, Bool, true, false, cond, ◌||◌, ◌==◌, nat_lt, nat_le, List, [], ◌∷◌, ◌++◌, length, map, filter, take, drop, Option, Some, None, MatchOption, refl, ap, sym, subst, ◌∙◌, arith, lt-ltb, le-ltb, le-leb, leb-true, mul-le-mul_right}
 use Rattle.std.proofs.lemmas.Bool.{cases_lt, lt-leb, eq-eqb, ne_eqb, false≢true}
 use Rattle.std.proofs.lemmas.List.{append-nil, append_assoc, length-append, length-map, length-take-le, length_push, map_push, take_at}
 use Rattle.std.proofs.lemmas.List.Elements.{filter-append}
@@ -29,6 +29,16 @@ first_from-is passes (suc n) b m le lt fails pass =
       | inl before ↦ later before
       | inr last ↦ let same : m ≡ b = omega arith in absurd (false≢true (sym is ∙ ap passes (sym same) ∙ pass))
     ]
+
+-- a search ends within its numbers
+first_from-lt : (passes : ℕ → Bool) (n b : ℕ) → first_from passes b (suc n) < b + suc n
+unfolding first_from
+first_from-lt passes zero b = elim (passes b) as (λ t. elim t [ true ↦ b | false ↦ 0 ] < b + 1) [ true ↦ omega arith | false ↦ omega arith ]
+first_from-lt passes (suc n) b = go (passes b) (first_from-lt passes n (b + 1))
+  where
+    go : (t : Bool) → first_from passes (b + 1) (suc n) < b + 1 + suc n → elim t [ true ↦ b | false ↦ first_from passes (b + 1) (suc n) ] < b + suc (suc n)
+    go true later = omega arith
+    go false later = omega arith
 
 -- what a field reads in as many bytes as it spells an element in
 pub element_is : {F : Type 0} (p w : ℕ) (number : F → ℕ) (residue : ℕ → F) → Residues p number residue → p ≤ 256 ^ w → (bytes : List ℕ) (r : Option F) → length bytes ≡ w
@@ -143,6 +153,13 @@ module _ (p : ℕ) (number : ℕ → ℕ) where
       let few : length (found p number m ++ all.rest) < n = omega (arith, length-append (found p number m) all.rest, all.few) in
       ap (choose n) all.whole
       ∙ ap (λ b. cond b (Some (take n (found p number m ++ all.rest))) None) (lt-leb n (length (found p number m ++ all.rest)) few)
+
+  pub numbers_read-le : (n : ℕ) → numbers_read p number n ≤ n + 128
+  unfolding numbers_read
+  numbers_read-le n =
+      let last : n + 129 ≡ suc (n + 128) = omega arith in
+      let within : first_from (is_done p number n) 0 (n + 129) < 0 + suc (n + 128) = subst (λ k. first_from (is_done p number n) 0 k < 0 + suc (n + 128)) (sym last) (first_from-lt (is_done p number n) (n + 128) 0) in
+      omega arith
 
   pub numbers_read-is : (n m : ℕ) → m < n + 129 → ((j : ℕ) → j < m → is_done p number n j ≡ false) → is_done p number n m ≡ true → numbers_read p number n ≡ m
   unfolding numbers_read
@@ -259,6 +276,13 @@ module _ {F : Type 0} (residue : ℕ → F) (p w : ℕ) (start : Reading) (n : �
       let here = count now elements skipped held in
       held.place
       ∙ ap (λ k. advanced start (k * w)) (sym (numbers_read-is p number n m (omega arith) held.undone (done_spent p number n m (omega (arith, here)) (omega (arith, here)))))
+
+-- a drawing takes no more than it may skip beside its elements
+pub bytes_drawn-le : (p w : ℕ) (key : List ℕ) (place n : ℕ) → bytes_drawn p w key place n ≤ (n + 128) * w
+bytes_drawn-le p w key place n = mul-le-mul_right w (numbers_read-le p (number_at key w place) n)
+
+pub reached : (p w : ℕ) (start now : Reading) (n : ℕ) → now ≡ advanced start (bytes_drawn p w start.key start.place n) → now.place ≤ start.place + (n + 128) * w
+reached p w start now n is = omega (arith, ap (λ (reading : Reading). reading.place) is, bytes_drawn-le p w start.key start.place n)
 
 -- what is drawn has its length
 pub length-drawn_at : {F : Type 0} (residue : ℕ → F) (p w : ℕ) (key : List ℕ) (place n : ℕ) (xs : List F) → drawn_at residue p w key place n ≡ Some xs → length xs ≡ n

@@ -32,7 +32,7 @@ impl Model for Prg {
 }
 
 impl Prg {
-    ghost use Rattle.std.specs.Prelude.{◌≡◌, ◌^◌, ◌<◌, ◌≤◌, length};
+    ghost use Rattle.std.specs.Prelude.{◌≡◌, ◌+◌, ◌*◌, ◌^◌, ◌<◌, ◌≤◌, length};
     ghost use Rattle.field_laws.specs.Bytes.{from_low};
     ghost use Rattle.aes_cmac_prg.specs.Cmac.{cmac};
     ghost use Rattle.aes_cmac_prg.specs.Stream.{advanced, byte_at, bytes_at};
@@ -109,6 +109,7 @@ impl Prg {
             (drawn_at F.residue F.MODULUS F.WIDTH self.old.key self.old.place n) }
         ensures place { Leaves result self.old
             (bytes_drawn F.MODULUS F.WIDTH self.old.key self.old.place n) self.new }
+        ensures reach { self.new.place ≤ self.old.place + (n + 128) * F.WIDTH }
     {
         let Ok(mut elements) = Vec::with_capacity(alloc, n) else {
             return Err(DrawFault::NoMemory);

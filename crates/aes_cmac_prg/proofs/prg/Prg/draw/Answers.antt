@@ -1,5 +1,5 @@
 use Rattle.std.proofs.Common.{◌≡◌, ◌+◌, ◌<◌, length, arith}
-use Rattle.aes_cmac_prg.proofs.Drawing.{HasRead_found, HasRead_skipped, all_drawn, all_read, none_drawn, none_read}
+use Rattle.aes_cmac_prg.proofs.Drawing.{HasRead_found, HasRead_skipped, all_drawn, all_read, none_drawn, none_read, reached}
 use Rattle.aes_cmac_prg.proofs.prg.Prg.draw.Goals as goal
 
 pub drawing-preserved-in-Some : goal.drawing-preserved-in-Some
@@ -40,9 +40,11 @@ returns-in-None g c =
     let wanted : length items < c.args.n = omega (arith, c.drawing.elements.ok.0) in
     let spent =
     HasRead_skipped f.residue f.MODULUS f.WIDTH start c.args.n c.drawing.self c.next_element.new.self items c.drawing.skipped so_far.read wanted so_far.skips c.in-None.ensures.element c.in-None.ensures.place in
+    let now = none_read f.residue f.MODULUS f.WIDTH start c.args.n c.next_element.new.self items (c.drawing.skipped + 1) spent wanted (omega arith) in
     record {
       drawn = none_drawn f.residue f.MODULUS f.WIDTH start c.args.n c.next_element.new.self items (c.drawing.skipped + 1) spent wanted (omega arith);
-      place = none_read f.residue f.MODULUS f.WIDTH start c.args.n c.next_element.new.self items (c.drawing.skipped + 1) spent wanted (omega arith);
+      place = now;
+      reach = reached f.MODULUS f.WIDTH start c.next_element.new.self c.args.n now;
     }
 
 pub returns : goal.returns
@@ -52,7 +54,9 @@ returns g c =
     let start = c.args.self.now in
     let items = c.drawing.elements.items in
     let all : length items ≡ c.args.n = omega (arith, c.drawing.elements.ok.0, so_far.read.few) in
+    let now = all_read f.residue f.MODULUS f.WIDTH start c.args.n c.drawing.self items c.drawing.skipped so_far.read all so_far.skips in
     record {
       drawn = all_drawn f.residue f.MODULUS f.WIDTH start c.args.n c.drawing.self items c.drawing.skipped so_far.read all so_far.skips;
-      place = all_read f.residue f.MODULUS f.WIDTH start c.args.n c.drawing.self items c.drawing.skipped so_far.read all so_far.skips;
+      place = now;
+      reach = reached f.MODULUS f.WIDTH start c.drawing.self c.args.n now;
     }
