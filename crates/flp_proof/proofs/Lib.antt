@@ -1,4 +1,5 @@
 pub mod Orders
+pub mod Folded
 pub mod Gadget
 pub mod Complete
 pub mod Made

@@ -10,6 +10,7 @@ mod laws;
 mod proving;
 mod querying;
 mod sizes;
+mod values;
 mod wires;
 
 pub use deciding::decide;

@@ -3,9 +3,9 @@ ghost use Rattle.flp_proof.specs.Proof.{proof_of, proof_len};
 
 use crate::gadgets::{gadget_values, push_all};
 use crate::sizes::log_above;
-use crate::wires::wires_of;
+use crate::wires::tables_of;
 use flp_circuits::Circuit;
-use poly_plain::interpolate;
+use poly_ntt::inverse;
 use std::alloc::{AllocError, Global};
 
 /// The proof for the input `x`: the wire seeds, one for each wire, then the gadget polynomial's coefficients. The joint
@@ -24,9 +24,9 @@ pub fn prove<C: Circuit>(
     ensures size { IfOk result (λ p. length p.items ≡ proof_len (C.shape c.now)) }
 {
     let log = log_above(c.calls());
-    let wires = wires_of(alloc, c, x, seeds, log)?;
-    let values = gadget_values(alloc, c, &wires, log + 1)?;
-    let whole = interpolate(alloc, &values)?;
+    let tables = tables_of(alloc, c, x, seeds, log)?;
+    let mut whole = gadget_values(alloc, c, &tables, log + 1)?;
+    inverse(&mut whole);
     let mut proof = Vec::new(alloc);
     push_all(&mut proof, seeds)?;
     push_all(&mut proof, &whole[..whole.len() - 1])?;

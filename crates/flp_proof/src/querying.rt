@@ -1,9 +1,10 @@
-ghost use Rattle.std.specs.Prelude.{◌≡◌, ◌+◌, ◌^◌, ◌≤◌, ◌↔◌, length, IfOk};
+ghost use Rattle.std.specs.Prelude.{◌≡◌, ◌+◌, ◌^◌, ◌↔◌, length, IfOk};
 ghost use Rattle.field_laws.specs.Ring.{power};
-ghost use Rattle.flp_proof.specs.Proof.{wire_log, query_of};
+ghost use Rattle.flp_proof.specs.Proof.{wire_log, proof_len, query_of};
 
-use crate::gadgets::{push_values, results_of};
+use crate::gadgets::push_values;
 use crate::sizes::log_above;
+use crate::values::values_at_roots;
 use crate::wires::wires_of;
 use field_laws::Field;
 use flp_circuits::Circuit;
@@ -32,7 +33,7 @@ fn verifier_share<C: Circuit>(
     t: C::F,
 ) -> Result<Vec<C::F>, AllocError>
     requires input { length x.now ≡ (C.shape c.now).input_len }
-    requires proof { (C.shape c.now).arity ≤ length proof.now }
+    requires proof { length proof.now ≡ proof_len (C.shape c.now) }
     requires joint { length joint.now ≡ (C.shape c.now).joint_len }
     ensures share { IfOk result (λ v. v.items ≡ query_of C.F.ring C.F.half_of C.F.root_of (C.shape c.now) one x.now proof.now joint.now t) }
     ensures size { IfOk result (λ v. length v.items ≡ (C.shape c.now).arity + 2) }
@@ -40,9 +41,9 @@ fn verifier_share<C: Circuit>(
     let log = log_above(c.calls());
     let wires = wires_of(alloc, c, x, proof, log)?;
     let g = &proof[c.arity()..];
-    let results = results_of(alloc, c, g, log)?;
+    let values = values_at_roots(alloc, g, log)?;
     let mut share = Vec::new(alloc);
-    share.push(c.validity(one, x, joint, &results))?;
+    share.push(c.validity(one, x, joint, &values[1..c.calls() + 1]))?;
     push_values(&mut share, &wires, t)?;
     share.push(eval(g, t))?;
     Ok(share)
@@ -61,7 +62,7 @@ pub fn query<C: Circuit>(
     t: C::F,
 ) -> Result<Vec<C::F>, QueryFault>
     requires input { length x.now ≡ (C.shape c.now).input_len }
-    requires proof { (C.shape c.now).arity ≤ length proof.now }
+    requires proof { length proof.now ≡ proof_len (C.shape c.now) }
     requires joint { length joint.now ≡ (C.shape c.now).joint_len }
     ensures share { IfOk result (λ v. v.items ≡ query_of C.F.ring C.F.half_of C.F.root_of (C.shape c.now) one x.now proof.now joint.now t) }
     ensures size { IfOk result (λ v. length v.items ≡ (C.shape c.now).arity + 2) }

@@ -1,4 +1,4 @@
-use Rattle.std.proofs.Common.{◌≡◌, ℕ, ◌+◌, ◌^◌, ◌<◌, ◌≤◌, arith}
+use Rattle.std.proofs.Common.{ℕ, ◌+◌, ◌^◌, ◌<◌, ◌≤◌, arith}
 use Rattle.field_laws.proofs.Logs.{exponent_below}
 use Rattle.flp_proof.specs.Proof.{wire_log}
 use Rattle.flp_proof.proofs.Orders.{wire_log_fits, wire_log_least, twice_order}
