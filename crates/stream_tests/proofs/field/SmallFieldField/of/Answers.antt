@@ -1,0 +1,6 @@
+use Rattle.std.proofs.Common.{refl}
+use Rattle.stream_tests.specs.Laws.{is_residue}
+use Rattle.stream_tests.proofs.field.SmallFieldField.of.Goals as goal
+
+pub returns : goal.returns
+returns c = is_residue _ _ refl
