@@ -1,0 +1,5 @@
+mod circuits;
+mod elements;
+mod polynomials;
+mod proofs;
+mod transforms;

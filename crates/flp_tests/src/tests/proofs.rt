@@ -1,0 +1,321 @@
+ghost use Rattle.std.specs.Prelude.{◌≡◌, length};
+ghost use Rattle.flp_proof.specs.Proof.{proof_len};
+
+use super::elements::{
+    between_10_and_20, check_elements, check_flag, check_number, drawn, sized, sized_elements,
+};
+use field_laws::{Field, add_all};
+use field64::Field64;
+use field128::Field128;
+use flp_circuits::{Circuit, Count, Sum};
+use flp_proof::{
+    QueryFault, decide, proof_len, proofs_meet_their_equations, prove, query,
+    valid_proofs_are_accepted,
+};
+use std::alloc::{AllocError, Global};
+use std::process::Abort;
+use std::test::Fail;
+
+/// An input with its randomness, and the proof, the verifier and the decision that it has.
+#[derive(Clone, Copy)]
+struct Case<'a> {
+    input: &'a [u128],
+    seeds: &'a [u128],
+    joint: &'a [u128],
+    point: u128,
+    proof: &'a [u128],
+    verifier: &'a [u128],
+    accepted: bool,
+}
+
+/// The entries of one vector less those of the other.
+fn difference<F: Field>(alloc: Global, from: &[F], taken: &[F]) -> Result<Vec<F>, AllocError> {
+    let mut made = Vec::new(alloc);
+    for (a, b) in from.iter().zip(taken) {
+        made.push(a.sub(*b))?;
+    }
+    Ok(made)
+}
+
+/// The sum of the verifier shares of two shares of an input and its proof, split at drawn places.
+fn check_shares<C: Circuit>(
+    rt: &impl Abort,
+    alloc: Global,
+    c: &C,
+    x: &[C::F],
+    proof: &[C::F],
+    joint: &[C::F],
+    t: C::F,
+    verifier: &[u128],
+) -> Result<(), Fail>
+    requires joint { length joint.now ≡ (C.shape c.now).joint_len }
+{
+    let right_x = sized(rt, drawn(alloc, 2026, x.len())?, c.input_len());
+    let right_proof = sized(rt, drawn(alloc, 2027, proof.len())?, proof_len(c));
+    let left_x = sized(rt, difference(alloc, x, &right_x)?, c.input_len());
+    let left_proof = sized(rt, difference(alloc, proof, &right_proof)?, proof_len(c));
+    let half = C::F::half();
+    let mut sum = query(alloc, c, half, &left_x, &left_proof, joint, t)?;
+    let right = query(alloc, c, half, &right_x, &right_proof, joint, t)?;
+    add_all(&mut sum, &right);
+    check_elements(rt, &sum, verifier);
+    Ok(())
+}
+
+/// At one, a root of one of every order, there is no verifier share.
+fn check_root<C: Circuit>(
+    rt: &impl Abort,
+    alloc: Global,
+    c: &C,
+    x: &[C::F],
+    proof: &[C::F],
+    joint: &[C::F],
+)
+    requires input { length x.now ≡ (C.shape c.now).input_len }
+    requires proof { length proof.now ≡ proof_len (C.shape c.now) }
+    requires joint { length joint.now ≡ (C.shape c.now).joint_len }
+{
+    let one = C::F::one();
+    let refused = matches!(
+        query(alloc, c, one, x, proof, joint, one),
+        Err(QueryFault::Root)
+    );
+    check_flag(rt, refused, true);
+}
+
+fn check_proof<C: Circuit>(rt: &impl Abort, alloc: Global, c: &C, case: Case) -> Result<(), Fail> {
+    let x = sized_elements(rt, alloc, case.input, c.input_len())?;
+    let seeds = sized_elements(rt, alloc, case.seeds, c.arity())?;
+    let joint = sized_elements(rt, alloc, case.joint, c.joint_len())?;
+    let t = C::F::of(case.point);
+    let proof = prove(alloc, c, &x, &seeds, &joint)?;
+    check_elements(rt, &proof, case.proof);
+    let verifier = query(alloc, c, C::F::one(), &x, &proof, &joint, t)?;
+    check_elements(rt, &verifier, case.verifier);
+    check_flag(rt, decide(c, &verifier), case.accepted);
+    check_shares(rt, alloc, c, &x, &proof, &joint, t, case.verifier)?;
+    check_root(rt, alloc, c, &x, &proof, &joint);
+    check_number(rt, proof_len(c) as u128, proof.len() as u128);
+    valid_proofs_are_accepted(c);
+    proofs_meet_their_equations(c);
+    Ok(())
+}
+
+/// Numbers this small are the same in both fields.
+fn check_count<F: Field>(rt: &impl Abort, alloc: Global) -> Result<(), Fail> {
+    let honest = Case {
+        input: &[1],
+        seeds: &[3, 5],
+        joint: &[],
+        point: 2,
+        proof: &[3, 5, 6, 7, 2],
+        verifier: &[0, 4, 7, 28],
+        accepted: true,
+    };
+    let cheating = Case {
+        input: &[3],
+        seeds: &[5, 7],
+        joint: &[],
+        point: 2,
+        proof: &[5, 7, 20, 13, 2],
+        verifier: &[6, 6, 9, 54],
+        accepted: false,
+    };
+    let count = Count::<F>::new();
+    check_proof(rt, alloc, &count, honest)?;
+    check_proof(rt, alloc, &count, cheating)
+}
+
+#[test]
+fn counts(rt: HostRuntime) -> Result<(), Fail> {
+    check_count::<Field64>(&rt, rt.alloc())?;
+    check_count::<Field128>(&rt, rt.alloc())
+}
+
+#[test]
+fn sums_64(rt: HostRuntime) -> Result<(), Fail> {
+    let alloc = rt.alloc();
+    let honest = Case {
+        input: &[0, 1, 1],
+        seeds: &[11],
+        joint: &[13],
+        point: 17,
+        proof: &[
+            11,
+            12682136547722526728,
+            4612073045446623246,
+            12682488391443415062,
+            9223372034707292188,
+            14987979556399349781,
+            4611298989260668942,
+            14987627712678461447,
+        ],
+        verifier: &[0, 18102218697920754500, 15282963226823538161],
+        accepted: true,
+    };
+    let cheating = Case {
+        input: &[0, 2, 1],
+        seeds: &[11],
+        joint: &[13],
+        point: 17,
+        proof: &[
+            11,
+            4611686017353646089,
+            9223794247172358158,
+            316659348799511,
+            27,
+            13835058052060938260,
+            9222949822242226190,
+            18446427410065784838,
+        ],
+        verifier: &[338, 18102218697920753340, 2925086038268359517],
+        accepted: false,
+    };
+    let sum = Sum::<Field64>::new(3);
+    check_proof(&rt, alloc, &sum, honest)?;
+    check_proof(&rt, alloc, &sum, cheating)
+}
+
+#[test]
+fn sums_128(rt: HostRuntime) -> Result<(), Fail> {
+    let alloc = rt.alloc();
+    let honest = Case {
+        input: &[0, 1, 1],
+        seeds: &[11],
+        joint: &[13],
+        point: 17,
+        proof: &[
+            11,
+            233944127258145193275970219190431776776,
+            280493439730478041000713755637589938864,
+            9449373624530123669671861842562459723,
+            170141183460469231473432886683950383132,
+            276479423123262501144328440861419372565,
+            229930110650929653419584904414261210477,
+            160691809835939107803761024841387923409,
+        ],
+        verifier: &[
+            0,
+            138966673878004479990808228716900620599,
+            33947269609131494254603717896201681388,
+        ],
+        accepted: true,
+    };
+    let cheating = Case {
+        input: &[0, 2, 1],
+        seeds: &[11],
+        joint: &[13],
+        point: 17,
+        proof: &[
+            11,
+            85070591730234615736716443341975191561,
+            104916899252694225713994321887247662363,
+            36152378574403361417137519744448151009,
+            27,
+            255211775190703847210149330025925574676,
+            235365467668244237232871451480653103873,
+            304129988346535101529728253623452615228,
+        ],
+        verifier: &[
+            338,
+            138966673878004479990808228716900619439,
+            218947713688400789208266247456689604600,
+        ],
+        accepted: false,
+    };
+    let sum = Sum::<Field128>::new(3);
+    check_proof(&rt, alloc, &sum, honest)?;
+    check_proof(&rt, alloc, &sum, cheating)
+}
+
+#[test]
+fn histograms_64(rt: HostRuntime) -> Result<(), Fail> {
+    let alloc = rt.alloc();
+    let honest = Case {
+        input: &[0, 1, 0],
+        seeds: &[11],
+        joint: &[13, 19],
+        point: 17,
+        proof: &[
+            11,
+            6,
+            9223372034707292173,
+            13835058052060938262,
+            9223372034707292188,
+            9223372034707292182,
+            15,
+            13835058052060938247,
+        ],
+        verifier: &[0, 13195, 174094830],
+        accepted: true,
+    };
+    let cheating = Case {
+        input: &[1, 1, 0],
+        seeds: &[11],
+        joint: &[13, 19],
+        point: 17,
+        proof: &[
+            11,
+            12682136547722526728,
+            4611298989260668942,
+            12681784704001638422,
+            9223372034707292188,
+            14987979556399349781,
+            4612073045446623246,
+            14988331400120238087,
+        ],
+        verifier: &[361, 344525371493856067, 3163780842932449820],
+        accepted: false,
+    };
+    let histogram = between_10_and_20::<Field64>(alloc)?;
+    check_proof(&rt, alloc, &histogram, honest)?;
+    check_proof(&rt, alloc, &histogram, cheating)
+}
+
+#[test]
+fn histograms_128(rt: HostRuntime) -> Result<(), Fail> {
+    let alloc = rt.alloc();
+    let honest = Case {
+        input: &[0, 1, 0],
+        seeds: &[11],
+        joint: &[13, 19],
+        point: 17,
+        proof: &[
+            11,
+            6,
+            170141183460469231473432886683950383117,
+            255211775190703847210149330025925574678,
+            170141183460469231473432886683950383132,
+            170141183460469231473432886683950383126,
+            15,
+            255211775190703847210149330025925574663,
+        ],
+        verifier: &[0, 13195, 174094830],
+        accepted: true,
+    };
+    let cheating = Case {
+        input: &[1, 1, 0],
+        seeds: &[11],
+        joint: &[13, 19],
+        point: 17,
+        proof: &[
+            11,
+            233944127258145193275970219190431776776,
+            229930110650929653419584904414261210477,
+            118156513970821799935402803170400327648,
+            170141183460469231473432886683950383132,
+            276479423123262501144328440861419372565,
+            280493439730478041000713755637589938864,
+            51984669489647431538030083513550055484,
+        ],
+        verifier: &[
+            361,
+            201315693042933982956057544651000171856,
+            306335097311806968692262055472040488481,
+        ],
+        accepted: false,
+    };
+    let histogram = between_10_and_20::<Field128>(alloc)?;
+    check_proof(&rt, alloc, &histogram, honest)?;
+    check_proof(&rt, alloc, &histogram, cheating)
+}
