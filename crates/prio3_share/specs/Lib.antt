@@ -1,0 +1,6 @@
+pub mod Base
+pub mod Texts
+pub mod Sharing
+pub mod Preparing
+pub mod Functions
+pub mod Shared
