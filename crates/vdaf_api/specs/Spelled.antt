@@ -168,3 +168,10 @@ spelled-none p w = refl
 pub low_bytes-none : (v : ℕ) → low_bytes 0 v ≡ []
 unfolding low_bytes
 low_bytes-none v = refl
+
+-- each entry is below p, and so is what is read past the end
+pub below-at : (p : ℕ) (xs : List ℕ) (i : ℕ) → 1 ≤ p → Below p xs → get_or xs i 0 < p
+unfolding Below
+below-at p [] i some below = omega arith
+below-at p (x ∷ xs) zero some below = below.0
+below-at p (x ∷ xs) (suc i) some below = below-at p xs i some below.1

@@ -1,5 +1,5 @@
 //! Out shares as bytes: tests and sums.
-ghost use Rattle.std.specs.Prelude.{◌≡◌, ◌+◌, ◌*◌, ◌%◌, ◌<◌, ◌≤◌, ◌↔◌, ℕ, List, ◌++◌, Some, IfOk, OnOk, length, IsTrue};
+ghost use Rattle.std.specs.Prelude.{◌≡◌, ◌+◌, ◌*◌, ◌%◌, ◌<◌, ◌≤◌, ◌↔◌, ℕ, List, ◌++◌, Some, IfOk, OnOk, length, slice_index, IsTrue};
 ghost use Rattle.field_laws.specs.Bytes.{low_bytes, from_low};
 ghost use Rattle.field_laws.specs.Vector.{add_each};
 ghost use Rattle.vdaf_api.specs.Vectors.{IsOut, plus, zero_share, numbers, spelled, vector_of, IsVector, SpaceLaws};
@@ -22,6 +22,7 @@ impl Space {
         requires out { IsOut self.now out.now }
         ensures numbers { IfOk result (λ v. v.items ≡ numbers self.now out.now) }
         ensures size { IfOk result (λ v. length v.items ≡ self.now.size) }
+        ensures below { IfOk result (λ v. (i : ℕ) → slice_index v.items i < self.now.modulus) }
     {
         let mut numbers = Vec::new(alloc);
         read_from(self.width, self.size, out, &mut numbers)?;
@@ -70,6 +71,7 @@ impl Space {
         requires helper { IsOut self.now helper.now }
         ensures numbers { IfOk result (λ v. v.items ≡ numbers self.now (plus self.now leader.now helper.now)) }
         ensures size { IfOk result (λ v. length v.items ≡ self.now.size) }
+        ensures below { IfOk result (λ v. (i : ℕ) → slice_index v.items i < self.now.modulus) }
     {
         let total = self.sum(alloc, leader, helper)?;
         self.numbers(alloc, &total)

@@ -1,6 +1,6 @@
-use Rattle.std.proofs.Common.{◌≡◌, ◌++◌, length, ap, sym, ◌∙◌}
+use Rattle.std.proofs.Common.{◌≡◌, ◌++◌, length, ap, sym, ◌∙◌, ◌<◌, get_or, subst}
 use Rattle.vdaf_api.specs.Vectors.{numbers_in}
-use Rattle.vdaf_api.specs.Spelled.{vector_of-back}
+use Rattle.vdaf_api.specs.Spelled.{vector_of-back, below-at}
 use Rattle.vdaf_api.proofs.space.Space.numbers.Goals as goal
 use Rattle.vdaf_api.proofs.space.Space.numbers.Goals.{In_ok-read_from}
 
@@ -19,3 +19,8 @@ pub returns-clause-size : goal.returns-clause-size
 returns-clause-size c =
     let s = c.args.self.now in
     ap length (read c) ∙ (vector_of-back s.modulus s.width s.size c.args.out.now c.requires.out.0 c.requires.out.1).size
+
+pub returns-clause-below : goal.returns-clause-below
+returns-clause-below c i =
+    let s = c.args.self.now in
+    subst (λ l. get_or l i 0 < s.modulus) (sym (read c)) (below-at s.modulus c.requires.out.0 i c.requires.space.some_number (vector_of-back s.modulus s.width s.size c.args.out.now c.requires.out.0 c.requires.out.1).below)
