@@ -1,14 +1,13 @@
 -- Lemmas: what a report's shares are together.
-use Rattle.std.proofs.Common.{◌≡◌, ℕ, ◌+◌, ◌*◌, List, [], ◌++◌, length, Option, Some, true, sym, ap, ◌∙◌, refl, subst, lit<, arith}
+use Rattle.std.proofs.Common.{◌≡◌, ℕ, ◌+◌, ◌*◌, List, [], ◌++◌, length, Some, sym, ap, ◌∙◌, lit<, arith}
 use Rattle.std.proofs.Math.ListN.{length-append}
-use Rattle.field_laws.specs.Polynomial.{add_polynomials}
 use Rattle.flp_circuits.specs.Shape.{Shape, ShapeLaws}
 use Rattle.flp_proof.specs.Proof.{proof_len}
 use Rattle.vdaf_api.specs.declared.role.Role.TheVariants.{Leader, Helper}
 use Rattle.vdaf_api.specs.Functions.{Parts}
 use Rattle.prio3_share.specs.Base.{Base, BaseLaws}
 use Rattle.prio3_share.specs.Texts.{drawn_for, bytes_of, part, input_key, proof_key, wire_key, leader_blind, helper_blind}
-use Rattle.prio3_share.specs.Sharing.{has_joint, if_joint, joint_bytes, joint_randomness, differences, leader_part, helper_part, whole_proof, shares_of, sharing, shard}
+use Rattle.prio3_share.specs.Sharing.{if_joint, joint_bytes, joint_randomness, differences, leader_part, helper_part, whole_proof, shares_of, sharing, shard}
 use Rattle.prio3_share.specs.Preparing.{Half, half_of, own_part, x_bytes, proof_bytes}
 use Rattle.prio3_share.specs.Added.{AddTo, HaveLengths}
 use Rattle.prio3_share.specs.declared.usage.Usage.TheVariants.{HelperInput, WireSeeds, HelperProof}
@@ -65,8 +64,8 @@ module _ {F : Type 0} {b : Base F} (laws : BaseLaws b) (c : Shape F) (keeps : Sh
         proofs = differences-add laws whole d.proof_helper (hw ∙ sym hph);
         public = ap (λ (p : Parts). p.public) d.is
             ∙ if_joint-same c (leader_part b c kind id seed x d.x_helper ++ helper_part b c kind id seed d.x_helper) (own_part b c kind Leader id lead ++ own_part b c kind Helper id help)
-              (λ joint. ap (λ k. part b kind Leader id k xl ++ helper_part b c kind id seed d.x_helper) (sym (if_joint-true c (leader_blind kind seed) joint))
-                ∙ ap (λ k. own_part b c kind Leader id lead ++ part b kind Helper id k d.x_helper) (sym (if_joint-true c (helper_blind kind seed) joint)));
+            (λ joint. ap (λ k. part b kind Leader id k xl ++ helper_part b c kind id seed d.x_helper) (sym (if_joint-true c (leader_blind kind seed) joint))
+            ∙ ap (λ k. own_part b c kind Leader id lead ++ part b kind Helper id k d.x_helper) (sym (if_joint-true c (helper_blind kind seed) joint)));
       }
 
   pub lengths : length x ≡ c.input_len → sharing b c kind id x seed ≡ Some parts → HaveLengths b c kind parts

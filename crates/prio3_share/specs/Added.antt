@@ -1,5 +1,5 @@
 -- What a report's shares are together.
-use Rattle.std.specs.Prelude.{◌≡◌, ℕ, ◌+◌, List, [], ◌++◌, length, Option, Some}
+use Rattle.std.specs.Prelude.{◌≡◌, ℕ, ◌+◌, List, [], ◌++◌, length, Some}
 use Rattle.field_laws.specs.Polynomial.{add_polynomials}
 use Rattle.flp_circuits.specs.Shape.{Shape}
 use Rattle.vdaf_api.specs.declared.role.Role.TheVariants.{Leader, Helper}

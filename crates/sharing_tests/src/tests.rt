@@ -54,7 +54,14 @@ fn check_report<C: Circuit>(
 
 #[test]
 fn counts_are_shared_as_computed_elsewhere(rt: HostRuntime) -> Result<(), Fail> {
-    let shares = shard(rt.alloc(), &Count::<Field64>::new(), 0, &first(), 1, &first())?;
+    let shares = shard(
+        rt.alloc(),
+        &Count::<Field64>::new(),
+        0,
+        &first(),
+        1,
+        &first(),
+    )?;
     let leader: [u128; 3] = [
         0x5a1993337950a739613df18846921614,
         0xc6be1a2656e92918f7f1454b67ae376e,
@@ -68,10 +75,16 @@ fn counts_are_shared_as_computed_elsewhere(rt: HostRuntime) -> Result<(), Fail> 
     assert_eq!(rt; shares.leader.len(), 48);
     assert_eq!(rt; shares.helper.len(), 32);
     for i in 0..3 {
-        assert_eq!(rt; &shares.leader.as_slice()[16 * i..16 * i + 16], leader[i].to_be_bytes().as_slice());
+        assert_eq!(rt;
+            &shares.leader.as_slice()[16 * i..16 * i + 16],
+            leader[i].to_be_bytes().as_slice()
+        );
     }
     for i in 0..2 {
-        assert_eq!(rt; &shares.helper.as_slice()[16 * i..16 * i + 16], helper[i].to_be_bytes().as_slice());
+        assert_eq!(rt;
+            &shares.helper.as_slice()[16 * i..16 * i + 16],
+            helper[i].to_be_bytes().as_slice()
+        );
     }
     Ok(())
 }
@@ -99,7 +112,14 @@ fn sums_are_shared_as_computed_elsewhere(rt: HostRuntime) -> Result<(), Fail> {
         leader: (5136, 0x83eeb28fc7f18b54f01541dd62333ea9),
         helper,
     };
-    check_report(&rt, rt.alloc(), &Sum::<Field128>::new(64), 1, u64::MAX, largest)
+    check_report(
+        &rt,
+        rt.alloc(),
+        &Sum::<Field128>::new(64),
+        1,
+        u64::MAX,
+        largest,
+    )
 }
 
 /// Bounds that have to be those of a histogram.
@@ -137,7 +157,14 @@ fn histograms_are_shared_as_computed_elsewhere(rt: HostRuntime) -> Result<(), Fa
         leader: (5136, 0xa22f85d1a0c3526885b4d798410e53db),
         helper,
     };
-    check_report(&rt, rt.alloc(), &tens(&rt, rt.alloc(), 63)?, 2, 631, largest)
+    check_report(
+        &rt,
+        rt.alloc(),
+        &tens(&rt, rt.alloc(), 63)?,
+        2,
+        631,
+        largest,
+    )
 }
 
 fn check_fault<C: Circuit>(
@@ -148,7 +175,8 @@ fn check_fault<C: Circuit>(
     m: u64,
     fault: ShardFault,
 ) {
-    let refused = matches!(shard(alloc, c, kind, &first(), m, &first()), Err(cause) if cause == fault);
+    let refused =
+        matches!(shard(alloc, c, kind, &first(), m, &first()), Err(cause) if cause == fault);
     assert!(rt; refused);
 }
 
@@ -156,8 +184,36 @@ fn check_fault<C: Circuit>(
 #[test]
 fn refusals_have_their_causes(rt: HostRuntime) {
     let alloc = rt.alloc();
-    check_fault(&rt, alloc, &Count::<Field64>::new(), 0, 2, ShardFault::BadValue);
-    check_fault(&rt, alloc, &Sum::<SmallField>::new(8), 1, 200, ShardFault::Spent);
-    check_fault(&rt, alloc, &Sum::<SmallField>::new(4), 1, 9, ShardFault::Spent);
-    check_fault(&rt, alloc, &Sum::<SmallField>::new(4), 1, 16, ShardFault::BadValue);
+    check_fault(
+        &rt,
+        alloc,
+        &Count::<Field64>::new(),
+        0,
+        2,
+        ShardFault::BadValue,
+    );
+    check_fault(
+        &rt,
+        alloc,
+        &Sum::<SmallField>::new(8),
+        1,
+        200,
+        ShardFault::Spent,
+    );
+    check_fault(
+        &rt,
+        alloc,
+        &Sum::<SmallField>::new(4),
+        1,
+        9,
+        ShardFault::Spent,
+    );
+    check_fault(
+        &rt,
+        alloc,
+        &Sum::<SmallField>::new(4),
+        1,
+        16,
+        ShardFault::BadValue,
+    );
 }

@@ -1,4 +1,3 @@
-use Rattle.std.proofs.Common.{ℕ}
 use Rattle.prio3_share.specs.Base.{BaseLaws, base_of}
 use Rattle.prio3_share.proofs.Added.{lengths}
 use Rattle.prio3_share.proofs.laws.shares_have_their_lengths.Goals as goal
