@@ -1,0 +1,8 @@
+//! Reports and the two aggregators' messages as bytes: what a report and a message are made of, the one spelling of
+//! each, and the readers, which name the first place where bytes aren't one. The layers above read and write with
+//! `read_report`, `read_message`, `write_report` and `write_message`.
+#![tactic(auto)]
+
+mod job;
+
+pub use job::JobNo;
