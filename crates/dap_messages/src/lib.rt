@@ -3,6 +3,10 @@
 //! `read_report`, `read_message`, `write_report` and `write_message`.
 #![tactic(auto)]
 
+mod fault;
+mod item;
 mod job;
 
+pub use fault::{Form, ReadFault};
+pub use item::{Items, Tagged};
 pub use job::JobNo;
