@@ -1,6 +1,6 @@
 -- Lemmas: what a grammar reads is spelled so, what is spelled so is read, and spellings are bounded.
 use Rattle.std.proofs.Common.{◌≡◌, ℕ, zero, suc, ◌+◌, ◌*◌, ◌^◌, ◌<◌, ◌≤◌, Bool, true, false, ◌&&◌, cond, List, [], ◌∷◌, ◌++◌, length, get_or, take, drop, Option, Some, None, Result, Ok, Err, refl, sym, ap, subst, ◌∙◌, append_assoc, arith}
-use Rattle.std.specs.Prelude.{nat_eq, nat_le, slice_get, option_map}
+use Rattle.std.specs.Prelude.{nat_eq, nat_le, slice_get, option_map, IfOk}
 use Rattle.std.specs.List.{list_all, flat_map}
 use Rattle.std.specs.Int.{Width, w16, w32, w64, byte_len, from_be_bytes, to_be_bytes}
 use Rattle.std.proofs.lemmas.Bool.{leb-true, le-leb, eqb-true, eq-eqb}
@@ -13,6 +13,9 @@ use Rattle.std.proofs.lemmas.Nat.{be_bytes_2, be_bytes_4, be_bytes_8, from_be_by
 use Rattle.dap_bytes.specs.Cursor.{Reading, rest_of, has_bytes, next_bytes, next_number, past}
 use Rattle.dap_bytes.specs.Name.{is_name_char}
 use Rattle.dap_messages.specs.declared.item.Tagged.{Tagged}
+use Rattle.dap_messages.specs.declared.fault.ReadFault.{ReadFault}
+use Rattle.dap_messages.specs.declared.fault.ReadFault.TheVariants as faults
+use Rattle.dap_messages.specs.Spelled.{Reads, IsOnly}
 use Rattle.dap_messages.specs.Grammar.{Grammar, ◌>>=◌, accepted, field, where_holds, is_between, number, byte, coded, cells, any_text, ◌⊗◌, fixed, shaped, spell_some, allowed_some, variant, sized, bytes, name, read_chosen, read_by, spell_chosen, allowed_chosen, by_first, is_above, item, items_at, spell_items, allowed_items, items, ended, whole}
 
 -- ---- what a grammar has to keep
@@ -93,6 +96,13 @@ further-then r x y =
     ap (λ (n : ℕ). let s : Reading = record { input = r.input; place = n } in s) places
 
 -- ---- the next bytes
+
+-- the input is the same further on
+pub input_past : (n : ℕ) (r : Reading) → (past n r).input ≡ r.input
+input_past n r = go (has_bytes n r) where
+  go : (b : Bool) → (let s : Reading = cond b (further n r) r in s).input ≡ r.input
+  go true = refl
+  go false = refl
 
 past_is : (n : ℕ) (r : Reading) → has_bytes n r ≡ true → past n r ≡ further n r
 past_is n r e = rw e refl
@@ -497,3 +507,13 @@ whole_again {A} g lg x a =
     let nothing : rest_of end ≡ [] = rest_further (front (g.spell x)) (g.spell x) [] (sym (append-nil (g.spell x))) in
     let over : nat_eq (length (rest_of end)) 0 ≡ true = ap (λ (t : List ℕ). nat_eq (length t) 0) nothing in
     rw (first, over) refl
+
+-- the two laws on what a reader answered
+pub is_found : {A : Type 0} (g : Grammar A) → Lawful g → (input : List ℕ) (r : Result A ReadFault) → ((i : ℕ) → get_or input i 0 < 256) → Reads g input r → IfOk r (λ x. (g.allowed x ≡ true) × (input ≡ g.spell x))
+is_found g lg input (Ok x) h e = whole_takes g lg input x h e
+is_found g lg input (Err e) h p = tt
+
+pub is_only : {A : Type 0} (g : Grammar A) → Lawful g → (input : List ℕ) (r : Result A ReadFault) → Reads g input r → (x : A) → g.allowed x ≡ true → input ≡ g.spell x → IsOnly x r
+is_only g lg input (Ok y) e x a is = ok_is y x (sym e ∙ ap (whole g) is ∙ whole_again g lg x a)
+is_only g lg input (Err faults.NoMemory) e x a is = tt
+is_only g lg input (Err (faults.Form at)) e x a is = absurd (let p : Err at ≡ done x = sym e ∙ ap (whole g) is ∙ whole_again g lg x a in cc)

@@ -4,9 +4,12 @@
 #![tactic(auto)]
 
 mod fault;
+pub mod fields;
 mod item;
 mod job;
+mod spelled;
 
 pub use fault::{Form, ReadFault};
 pub use item::{Items, Tagged};
 pub use job::JobNo;
+pub use spelled::{Spelled, read_all, write_all};
