@@ -80,6 +80,10 @@ cells n test = record {
 abbrev pub any_text : List ℕ → Bool
 any_text text = true
 
+-- no bytes
+abbrev pub nothing : Grammar (Unit {0})
+nothing = record { read = λ r. Ok (tt, r); spell = λ _. []; allowed = λ _. true; most = 0 }
+
 -- ---- several fields
 
 -- one after the other

@@ -16,7 +16,7 @@ use Rattle.dap_messages.specs.declared.item.Tagged.{Tagged}
 use Rattle.dap_messages.specs.declared.fault.ReadFault.{ReadFault}
 use Rattle.dap_messages.specs.declared.fault.ReadFault.TheVariants as faults
 use Rattle.dap_messages.specs.Spelled.{Reads, IsOnly}
-use Rattle.dap_messages.specs.Grammar.{Grammar, ◌>>=◌, accepted, field, where_holds, is_between, number, byte, coded, cells, any_text, ◌⊗◌, fixed, shaped, spell_some, allowed_some, variant, sized, bytes, name, read_chosen, read_by, spell_chosen, allowed_chosen, by_first, is_above, item, items_at, spell_items, allowed_items, items, ended, whole}
+use Rattle.dap_messages.specs.Grammar.{Grammar, ◌>>=◌, accepted, field, where_holds, is_between, number, byte, coded, cells, any_text, nothing, ◌⊗◌, fixed, shaped, spell_some, allowed_some, variant, sized, bytes, name, read_chosen, read_by, spell_chosen, allowed_chosen, by_first, is_above, item, items_at, spell_items, allowed_items, items, ended, whole}
 
 -- ---- what a grammar has to keep
 
@@ -54,7 +54,7 @@ ok_is x y e = cc
 abbrev just : {A : Type 0} → A → Option A
 just x = Some x
 
-some_is : {A : Type 0} (x y : A) → just x ≡ just y → x ≡ y
+pub some_is : {A : Type 0} (x y : A) → just x ≡ just y → x ≡ y
 some_is x y e = cc
 
 pub and_parts : (a b : Bool) → (a && b) ≡ true → (a ≡ true) × (b ≡ true)
@@ -241,6 +241,15 @@ cells_lawful n test = record {
       let next = next_again r text rest n (eqb-true (length text) n parts.0) e in
       field_again n (where_holds test) r (next_bytes n r) text text (further (length text) r) next.0 (where_again test text parts.1) next.1;
   within = λ text a. omega (arith, eqb-true (length text) n (and_parts (nat_eq (length text) n) (test text) a).0);
+}
+
+pub nothing_lawful : Lawful nothing
+nothing_lawful = record {
+  takes = λ r x s h e.
+      let made : Unit {0} × Reading = (tt, r) in
+      subst (λ (q : Unit {0} × Reading). Takes r [] q.1 × (true ≡ true)) (ok_is made (x, s) e) (Takes-nothing r, refl);
+  again = λ x r rest a e. ap (λ (p : Reading). let z : Unit {0} × Reading = (x, p) in done z) (Takes-nothing r).moved;
+  within = λ x a. omega arith;
 }
 
 -- ---- several fields

@@ -3,12 +3,16 @@
 //! `read_report`, `read_message`, `write_report` and `write_message`.
 #![tactic(auto)]
 
+mod body;
+mod code;
 mod fault;
 pub mod fields;
 mod item;
 mod job;
 mod spelled;
 
+pub use body::{Half, MOST_HELPER, MOST_PREP, MOST_PUBLIC, Status, Step};
+pub use code::Code;
 pub use fault::{Form, ReadFault};
 pub use item::{Items, Tagged};
 pub use job::JobNo;
