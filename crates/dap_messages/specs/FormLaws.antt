@@ -10,9 +10,11 @@ use Rattle.dap_messages.specs.declared.body.Step.{Step}
 use Rattle.dap_messages.specs.declared.body.Step.TheVariants as steps
 use Rattle.dap_messages.specs.declared.body.Status.{Status}
 use Rattle.dap_messages.specs.declared.body.Status.TheVariants as statuses
+use Rattle.dap_messages.specs.declared.reply.Reply.{Reply}
+use Rattle.dap_messages.specs.declared.reply.Reply.TheVariants as replies
 use Rattle.dap_messages.specs.Grammar.{Grammar, number, byte, cells, any_text, nothing, ◌⊗◌, shaped, variant, bytes, name, by_first}
 use Rattle.dap_messages.specs.Laws.{Lawful, number_lawful, byte_lawful, coded_lawful, cells_lawful, nothing_lawful, then_lawful, fixed_lawful, shaped_lawful, variant_lawful, sized_lawful, by_first_lawful, items_lawful, IsChoice, one_of, none_of, wide16, wide32, wide64, and_parts, some_is}
-use Rattle.dap_messages.specs.Forms.{any_u8, any_u32, any_u64, time, identifier, checksum, job, code_of, byte_of, code, half, continued_of, failed_of, first_of_step, step_by, step, finished_of, unfinished_of, first_of_status, status_by, status}
+use Rattle.dap_messages.specs.Forms.{any_u8, any_u32, any_u64, time, identifier, checksum, job, code_of, byte_of, code, half, continued_of, failed_of, first_of_step, step_by, step, finished_of, unfinished_of, first_of_status, status_by, status, share_of, total_of, mismatch_of, first_of_reply, reply_by, reply}
 
 -- ---- numbers
 
@@ -126,3 +128,48 @@ status_choices b g =
 
 pub status_lawful : Lawful status
 status_lawful = by_first_lawful first_of_status status_by 1 status_choices
+
+-- ---- what the helper answers for a batch
+
+pub any_u32_lawful : Lawful any_u32
+any_u32_lawful = u32_lawful 0 4294967295 (lit≤ tt)
+
+share_only : (s : Reply) (x : List ℕ) → share_of s ≡ Some x → replies.Share x ≡ s
+share_only (replies.Share share) x e = ap replies.Share (sym (some_is share x e))
+share_only (replies.Small total) x e = absurd cc
+share_only (replies.Mismatch total check) x e = absurd cc
+
+total_only : (s : Reply) (x : ℕ) → total_of s ≡ Some x → replies.Small x ≡ s
+total_only (replies.Share share) x e = absurd cc
+total_only (replies.Small total) x e = ap replies.Small (sym (some_is total x e))
+total_only (replies.Mismatch total check) x e = absurd cc
+
+mismatch_only : (s : Reply) (x : ℕ × List ℕ) → mismatch_of s ≡ Some x → replies.Mismatch x.0 x.1 ≡ s
+mismatch_only (replies.Share share) x e = absurd cc
+mismatch_only (replies.Small total) x e = absurd cc
+mismatch_only (replies.Mismatch total check) x e = ap (λ (p : ℕ × List ℕ). replies.Mismatch p.0 p.1) (sym (some_is (total, check) x e))
+
+share_stands : (s : Reply) → (variant replies.Share share_of (bytes 16384)).allowed s ≡ true → first_of_reply s ≡ 0
+share_stands (replies.Share share) a = refl
+share_stands (replies.Small total) a = absurd cc
+share_stands (replies.Mismatch total check) a = absurd cc
+
+total_stands : (s : Reply) → (variant replies.Small total_of any_u32).allowed s ≡ true → first_of_reply s ≡ 1
+total_stands (replies.Share share) a = absurd cc
+total_stands (replies.Small total) a = refl
+total_stands (replies.Mismatch total check) a = absurd cc
+
+mismatch_stands : (s : Reply) → (variant (λ p. replies.Mismatch p.0 p.1) mismatch_of (any_u32 ⊗ checksum)).allowed s ≡ true → first_of_reply s ≡ 2
+mismatch_stands (replies.Share share) a = absurd cc
+mismatch_stands (replies.Small total) a = absurd cc
+mismatch_stands (replies.Mismatch total check) a = refl
+
+reply_choices : (b : ℕ) (g : Grammar Reply) → reply_by b ≡ Some g → IsChoice first_of_reply 16388 b g
+reply_choices b g =
+    one_of first_of_reply 16388 b 0 _ _ g (record { lawful = variant_lawful replies.Share share_of (bytes 16384) (λ x. refl) share_only (bytes_lawful 16384 (lit≤ tt)); stands = share_stands; within = lit≤ tt })
+    (one_of first_of_reply 16388 b 1 _ _ g (record { lawful = variant_lawful replies.Small total_of any_u32 (λ x. refl) total_only any_u32_lawful; stands = total_stands; within = lit≤ tt })
+    (one_of first_of_reply 16388 b 2 _ _ g (record { lawful = variant_lawful (λ p. replies.Mismatch p.0 p.1) mismatch_of (any_u32 ⊗ checksum) (λ x. refl) mismatch_only (then_lawful any_u32 checksum any_u32_lawful (cells_lawful 32 any_text)); stands = mismatch_stands; within = lit≤ tt })
+    (none_of first_of_reply 16388 b g)))
+
+pub reply_lawful : Lawful reply
+reply_lawful = by_first_lawful first_of_reply reply_by 16388 reply_choices

@@ -9,6 +9,8 @@ use Rattle.dap_messages.specs.declared.body.Step.{Step}
 use Rattle.dap_messages.specs.declared.body.Step.TheVariants as steps
 use Rattle.dap_messages.specs.declared.body.Status.{Status}
 use Rattle.dap_messages.specs.declared.body.Status.TheVariants as statuses
+use Rattle.dap_messages.specs.declared.reply.Reply.{Reply}
+use Rattle.dap_messages.specs.declared.reply.Reply.TheVariants as replies
 use Rattle.dap_messages.specs.Grammar.{Grammar, number, byte, coded, cells, any_text, nothing, ◌⊗◌, fixed, shaped, variant, bytes, name, by_first, items}
 
 -- ---- fields
@@ -104,3 +106,35 @@ status_by b =
 
 abbrev pub status : Grammar Status
 status = by_first first_of_status status_by 1
+
+-- ---- what the helper answers for a batch
+
+abbrev pub share_of : Reply → Option (List ℕ)
+share_of (replies.Share share) = Some share
+share_of (replies.Small total) = None
+share_of (replies.Mismatch total check) = None
+
+abbrev pub total_of : Reply → Option ℕ
+total_of (replies.Share share) = None
+total_of (replies.Small total) = Some total
+total_of (replies.Mismatch total check) = None
+
+abbrev pub mismatch_of : Reply → Option (ℕ × List ℕ)
+mismatch_of (replies.Share share) = None
+mismatch_of (replies.Small total) = None
+mismatch_of (replies.Mismatch total check) = Some (total, check)
+
+abbrev pub first_of_reply : Reply → ℕ
+first_of_reply (replies.Share share) = 0
+first_of_reply (replies.Small total) = 1
+first_of_reply (replies.Mismatch total check) = 2
+
+-- 00 and a share, 01 and a total, or 02, a total and a checksum
+abbrev pub reply_by : ℕ → Option (Grammar Reply)
+reply_by b =
+    if b == 0 then Some (variant replies.Share share_of (bytes 16384)) else
+    (if b == 1 then Some (variant replies.Small total_of any_u32) else
+    (if b == 2 then Some (variant (λ p. replies.Mismatch p.0 p.1) mismatch_of (any_u32 ⊗ checksum)) else None))
+
+abbrev pub reply : Grammar Reply
+reply = by_first first_of_reply reply_by 16388

@@ -2,4 +2,6 @@ pub mod FormLaws
 pub mod Forms
 pub mod Grammar
 pub mod Laws
+pub mod MessageLaws
+pub mod Messages
 pub mod Spelled

@@ -11,11 +11,15 @@ abbrev pub Finds : {A : Type 0} → Grammar A → Reading → Result A Form → 
 Finds g old (Ok x) new = g.read old ≡ Ok (x, new)
 Finds g old (Err form) new = g.read old ≡ Err form.at
 
--- a reader that may run out of memory
+-- a reader that may run out of memory, against what is there to be read
+abbrev pub Answers : {A : Type 0} → Result (A × Reading) ℕ → Result A ReadFault → Reading → Type 0
+Answers read (Ok x) new = read ≡ Ok (x, new)
+Answers read (Err (faults.Form at)) new = read ≡ Err at
+Answers read (Err faults.NoMemory) new = Unit {0}
+
+-- the same by a grammar
 abbrev pub Gives : {A : Type 0} → Grammar A → Reading → Result A ReadFault → Reading → Type 0
-Gives g old (Ok x) new = g.read old ≡ Ok (x, new)
-Gives g old (Err (faults.Form at)) new = g.read old ≡ Err at
-Gives g old (Err faults.NoMemory) new = Unit {0}
+Gives g old result new = Answers (g.read old) result new
 
 -- a reader of a whole input
 abbrev pub Reads : {A : Type 0} → Grammar A → List ℕ → Result A ReadFault → Type 0
