@@ -1,5 +1,5 @@
 -- Reading and writing items one after the other, as a loop does.
-use Rattle.std.proofs.Common.{◌≡◌, ℕ, suc, ◌-◌, ◌+◌, ◌≤◌, ◌<◌, Bool, true, ◌&&◌, All, List, [], ◌∷◌, ◌++◌, Option, Some, None, Result, Ok, Err, refl, sym, ap, ◌∙◌, append_assoc, arith}
+use Rattle.std.proofs.Common.{◌≡◌, ℕ, suc, ◌-◌, ◌+◌, ◌≤◌, ◌<◌, true, All, List, [], ◌∷◌, ◌++◌, Option, Some, None, Result, Ok, Err, refl, sym, ap, ◌∙◌, append_assoc, arith}
 use Rattle.std.specs.List.{AllByRecursion}
 use Rattle.std.proofs.lemmas.List.{append-nil}
 use Rattle.std.proofs.lemmas.List.Elements.{All-from_recursion}
@@ -19,9 +19,9 @@ pub begins : {B : Type 0} (g : Grammar B) (count : ℕ) (r : Reading) → with_f
 begins {B} g count r =
     let same : count - 0 ≡ count = omega arith in
     ap (λ (n : ℕ). with_front [] (items_at g None n r)) same ∙ go (items_at g None count r) where
-  go : (read : Result (List (Tagged B) × Reading) ℕ) → with_front [] read ≡ read
-  go (Ok x) = refl
-  go (Err at) = refl
+      go : (read : Result (List (Tagged B) × Reading) ℕ) → with_front [] read ≡ read
+      go (Ok x) = refl
+      go (Err at) = refl
 
 regroup : {B : Type 0} (front : List (Tagged B)) (x : Tagged B) (read : Result (List (Tagged B) × Reading) ℕ) → with_front front (read >>= λ y. Ok (x ∷ y.0, y.1)) ≡ with_front (front ++ x ∷ []) read
 regroup {B} front x (Ok y) =
@@ -33,7 +33,7 @@ pub goes_on : {B : Type 0} (g : Grammar B) (last : Option (List ℕ)) (front : L
 goes_on g last front count i r x after total lt h so_far =
     let k : count - i ≡ suc (count - (i + 1)) = omega arith in
     let one : with_front front (items_at g last (count - i) r) ≡ with_front (front ++ x ∷ []) (items_at g (Some x.id) (count - (i + 1)) after) =
-        rw (k, h) (regroup front x (items_at g (Some x.id) (count - (i + 1)) after)) in
+    rw (k, h) (regroup front x (items_at g (Some x.id) (count - (i + 1)) after)) in
     sym one ∙ so_far
 
 -- a fault of an item is the fault of the list
@@ -54,7 +54,7 @@ pub is_done : {B : Type 0} (g : Grammar B) (last : Option (List ℕ)) (front : L
 is_done {B} g last front count i r total le so_far =
     let k : count - i ≡ 0 = omega arith in
     let one : with_front front (items_at g last (count - i) r) ≡ Ok (front, r) =
-        rw k (ap (λ (xs : List (Tagged B)). let z : Result (List (Tagged B) × Reading) ℕ = Ok (xs, r) in z) (append-nil front)) in
+    rw k (ap (λ (xs : List (Tagged B)). let z : Result (List (Tagged B) × Reading) ℕ = Ok (xs, r) in z) (append-nil front)) in
     sym so_far ∙ one
 
 -- the bodies of allowed items are allowed

@@ -1,7 +1,7 @@
 -- Lemmas: the forms of reports and messages keep the laws of grammars.
-use Rattle.std.proofs.Common.{◌≡◌, ℕ, ◌≤◌, Bool, true, false, cond, List, Option, Some, None, refl, sym, ap, subst, ◌∙◌, arith, lit≤}
+use Rattle.std.proofs.Common.{◌≡◌, ℕ, ◌≤◌, Bool, true, false, cond, List, Option, Some, None, refl, sym, ap, ◌∙◌, arith, lit≤}
 use Rattle.std.specs.Prelude.{nat_eq, nat_le}
-use Rattle.std.specs.Int.{w16, w32, w64, byte_len}
+use Rattle.std.specs.Int.{w16, w32, w64}
 use Rattle.std.proofs.lemmas.Bool.{eqb-true, leb-true}
 use Rattle.std.proofs.lemmas.Nat.{from_be_bytes-to_be_bytes_2, from_be_bytes-to_be_bytes_4, from_be_bytes-to_be_bytes_8}
 use Rattle.dap_messages.specs.declared.code.Code.{Code}
@@ -12,9 +12,9 @@ use Rattle.dap_messages.specs.declared.body.Status.{Status}
 use Rattle.dap_messages.specs.declared.body.Status.TheVariants as statuses
 use Rattle.dap_messages.specs.declared.reply.Reply.{Reply}
 use Rattle.dap_messages.specs.declared.reply.Reply.TheVariants as replies
-use Rattle.dap_messages.specs.Grammar.{Grammar, number, byte, cells, any_text, nothing, ◌⊗◌, shaped, variant, bytes, name, by_first}
-use Rattle.dap_messages.specs.Laws.{Lawful, number_lawful, byte_lawful, coded_lawful, cells_lawful, nothing_lawful, then_lawful, fixed_lawful, shaped_lawful, variant_lawful, sized_lawful, by_first_lawful, items_lawful, IsChoice, one_of, none_of, wide16, wide32, wide64, and_parts, some_is}
-use Rattle.dap_messages.specs.Forms.{any_u8, any_u32, any_u64, time, identifier, checksum, job, code_of, byte_of, code, half, continued_of, failed_of, first_of_step, step_by, step, finished_of, unfinished_of, first_of_status, status_by, status, share_of, total_of, mismatch_of, first_of_reply, reply_by, reply}
+use Rattle.dap_messages.specs.Grammar.{Grammar, number, byte, any_text, nothing, ◌⊗◌, variant, bytes, name}
+use Rattle.dap_messages.specs.Laws.{Lawful, number_lawful, byte_lawful, coded_lawful, cells_lawful, nothing_lawful, then_lawful, shaped_lawful, variant_lawful, sized_lawful, by_first_lawful, IsChoice, one_of, none_of, wide16, wide32, wide64, and_parts, some_is}
+use Rattle.dap_messages.specs.Forms.{any_u8, any_u32, any_u64, time, checksum, job, code_of, byte_of, code, half, continued_of, failed_of, first_of_step, step_by, step, finished_of, unfinished_of, first_of_status, status_by, status, share_of, total_of, mismatch_of, first_of_reply, reply_by, reply}
 
 -- ---- numbers
 
@@ -44,8 +44,8 @@ name_lawful = sized_lawful (byte 1 32) 32 _ (λ n a. leb-true n 32 (and_parts (n
 pub job_lawful : Lawful job
 job_lawful =
     shaped_lawful _ _ (any_u8 ⊗ any_u64 ⊗ any_u64) (λ p. refl) (λ j. refl)
-        (then_lawful any_u8 (any_u64 ⊗ any_u64) (byte_lawful 0 255)
-            (then_lawful any_u64 any_u64 (u64_lawful 0 18446744073709551615 (lit≤ tt)) (u64_lawful 0 18446744073709551615 (lit≤ tt))))
+    (then_lawful any_u8 (any_u64 ⊗ any_u64) (byte_lawful 0 255)
+    (then_lawful any_u64 any_u64 (u64_lawful 0 18446744073709551615 (lit≤ tt)) (u64_lawful 0 18446744073709551615 (lit≤ tt))))
 
 -- one row of a table of bytes, over the rows after it
 pub coded_row : {A : Type 0} (byte_of : A → ℕ) (b k : ℕ) (y x : A) (others : Option A) → byte_of y ≡ k → (others ≡ Some x → byte_of x ≡ b) → cond (nat_eq b k) (Some y) others ≡ Some x → byte_of x ≡ b
@@ -66,7 +66,7 @@ code_back VdafPrepError = refl
 code_only : (b : ℕ) (c : Code) → code_of b ≡ Some c → byte_of c ≡ b
 code_only b c =
     coded_row byte_of b 0 BatchCollected c _ refl (coded_row byte_of b 1 ReportReplayed c _ refl
-        (coded_row byte_of b 4 HpkeDecryptError c _ refl (coded_row byte_of b 5 VdafPrepError c _ refl (no_row byte_of b c))))
+    (coded_row byte_of b 4 HpkeDecryptError c _ refl (coded_row byte_of b 5 VdafPrepError c _ refl (no_row byte_of b c))))
 
 pub code_lawful : Lawful code
 code_lawful = coded_lawful code_of byte_of code_back code_only
@@ -76,8 +76,8 @@ code_lawful = coded_lawful code_of byte_of code_back code_only
 pub half_lawful : Lawful half
 half_lawful =
     shaped_lawful _ _ (time ⊗ bytes 32000 ⊗ bytes 32000) (λ p. refl) (λ h. refl)
-        (then_lawful time (bytes 32000 ⊗ bytes 32000) time_lawful
-            (then_lawful (bytes 32000) (bytes 32000) (bytes_lawful 32000 (lit≤ tt)) (bytes_lawful 32000 (lit≤ tt))))
+    (then_lawful time (bytes 32000 ⊗ bytes 32000) time_lawful
+    (then_lawful (bytes 32000) (bytes 32000) (bytes_lawful 32000 (lit≤ tt)) (bytes_lawful 32000 (lit≤ tt))))
 
 continued_only : (s : Step) (prep : List ℕ) → continued_of s ≡ Some prep → steps.Continued prep ≡ s
 continued_only (steps.Continued p) prep e = ap steps.Continued (sym (some_is p prep e))

@@ -1,6 +1,6 @@
 -- The forms of reports and messages, as tables of their fields.
 use Rattle.std.specs.Prelude.{ℕ, List, Option, Some, None, ◌==◌, if◌then◌else◌}
-use Rattle.std.specs.Int.{w16, w32, w64}
+use Rattle.std.specs.Int.{w32, w64}
 use Rattle.dap_messages.specs.declared.job.JobNo.{JobNo}
 use Rattle.dap_messages.specs.declared.code.Code.{Code}
 use Rattle.dap_messages.specs.declared.code.Code.TheVariants.{BatchCollected, ReportReplayed, HpkeDecryptError, VdafPrepError}
@@ -11,7 +11,7 @@ use Rattle.dap_messages.specs.declared.body.Status.{Status}
 use Rattle.dap_messages.specs.declared.body.Status.TheVariants as statuses
 use Rattle.dap_messages.specs.declared.reply.Reply.{Reply}
 use Rattle.dap_messages.specs.declared.reply.Reply.TheVariants as replies
-use Rattle.dap_messages.specs.Grammar.{Grammar, number, byte, coded, cells, any_text, nothing, ◌⊗◌, fixed, shaped, variant, bytes, name, by_first, items}
+use Rattle.dap_messages.specs.Grammar.{Grammar, number, byte, coded, cells, any_text, nothing, ◌⊗◌, shaped, variant, bytes, by_first}
 
 -- ---- fields
 

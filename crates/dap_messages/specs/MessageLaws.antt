@@ -9,10 +9,9 @@ use Rattle.dap_messages.specs.declared.body.Step.{Step}
 use Rattle.dap_messages.specs.declared.body.Status.{Status}
 use Rattle.dap_messages.specs.declared.item.Tagged.{Tagged}
 use Rattle.dap_messages.specs.declared.reply.Reply.{Reply}
-use Rattle.dap_messages.specs.declared.report.Report.{Report}
 use Rattle.dap_messages.specs.declared.message.Message.{Message}
 use Rattle.dap_messages.specs.declared.message.Message.TheVariants.{InitReq, InitResp, ContReq, ContResp, ShareReq, ShareResp}
-use Rattle.dap_messages.specs.Grammar.{Grammar, number, any_text, ◌⊗◌, fixed, shaped, variant, bytes, name, by_first, items}
+use Rattle.dap_messages.specs.Grammar.{Grammar, number, any_text, ◌⊗◌, fixed, bytes, name, items}
 use Rattle.dap_messages.specs.Laws.{Lawful, cells_lawful, then_lawful, fixed_lawful, shaped_lawful, variant_lawful, by_first_lawful, items_lawful, IsChoice, one_of, none_of, and_parts, some_is}
 use Rattle.dap_messages.specs.Forms.{any_u32, time, identifier, checksum, job, half, step, status, reply}
 use Rattle.dap_messages.specs.FormLaws.{u16_lawful, any_u32_lawful, time_lawful, bytes_lawful, name_lawful, job_lawful, half_lawful, step_lawful, status_lawful, reply_lawful}
@@ -26,14 +25,14 @@ only_nought n a = let most = leb-true n 0 (and_parts (nat_le 0 n) (nat_le n 0) a
 shares_lawful : Lawful (bytes 32000 ⊗ bytes 131072 ⊗ bytes 32000)
 shares_lawful =
     then_lawful (bytes 32000) (bytes 131072 ⊗ bytes 32000) (bytes_lawful 32000 (lit≤ tt))
-        (then_lawful (bytes 131072) (bytes 32000) (bytes_lawful 131072 (lit≤ tt)) (bytes_lawful 32000 (lit≤ tt)))
+    (then_lawful (bytes 131072) (bytes 32000) (bytes_lawful 131072 (lit≤ tt)) (bytes_lawful 32000 (lit≤ tt)))
 
 fields_lawful : Lawful report_fields
 fields_lawful =
     then_lawful name (identifier ⊗ time ⊗ fixed (number w16 0 0) 0 (bytes 32000 ⊗ bytes 131072 ⊗ bytes 32000)) name_lawful
-        (then_lawful identifier (time ⊗ fixed (number w16 0 0) 0 (bytes 32000 ⊗ bytes 131072 ⊗ bytes 32000)) (cells_lawful 16 any_text)
-            (then_lawful time (fixed (number w16 0 0) 0 (bytes 32000 ⊗ bytes 131072 ⊗ bytes 32000)) time_lawful
-                (fixed_lawful (number w16 0 0) 0 (bytes 32000 ⊗ bytes 131072 ⊗ bytes 32000) (u16_lawful 0 0 (lit≤ tt)) shares_lawful refl only_nought)))
+    (then_lawful identifier (time ⊗ fixed (number w16 0 0) 0 (bytes 32000 ⊗ bytes 131072 ⊗ bytes 32000)) (cells_lawful 16 any_text)
+    (then_lawful time (fixed (number w16 0 0) 0 (bytes 32000 ⊗ bytes 131072 ⊗ bytes 32000)) time_lawful
+    (fixed_lawful (number w16 0 0) 0 (bytes 32000 ⊗ bytes 131072 ⊗ bytes 32000) (u16_lawful 0 0 (lit≤ tt)) shares_lawful refl only_nought)))
 
 pub report_lawful : Lawful report
 report_lawful = shaped_lawful _ _ report_fields (λ p. refl) (λ r. refl) fields_lawful
@@ -59,7 +58,7 @@ init_req_stands (ShareResp n s r) a = absurd cc
 pub init_req_lawful : Lawful init_req
 init_req_lawful =
     variant_lawful (λ p. InitReq p.0 p.1.0 p.1.1) init_req_of (job ⊗ name ⊗ items half) (λ x. refl) init_req_only
-        (then_lawful job (name ⊗ items half) job_lawful (then_lawful name (items half) name_lawful (items_lawful half half_lawful)))
+    (then_lawful job (name ⊗ items half) job_lawful (then_lawful name (items half) name_lawful (items_lawful half half_lawful)))
 
 init_resp_only : (m : Message) (x : JobNo × List (Tagged Step)) → init_resp_of m ≡ Some x → (let p : JobNo × List (Tagged Step) = x in InitResp p.0 p.1) ≡ m
 init_resp_only (InitReq j n hs) x e = absurd cc
@@ -80,7 +79,7 @@ init_resp_stands (ShareResp n s r) a = absurd cc
 pub init_resp_lawful : Lawful init_resp
 init_resp_lawful =
     variant_lawful (λ p. InitResp p.0 p.1) init_resp_of (job ⊗ items step) (λ x. refl) init_resp_only
-        (then_lawful job (items step) job_lawful (items_lawful step step_lawful))
+    (then_lawful job (items step) job_lawful (items_lawful step step_lawful))
 
 cont_req_only : (m : Message) (x : JobNo × List (Tagged Step)) → cont_req_of m ≡ Some x → (let p : JobNo × List (Tagged Step) = x in ContReq p.0 p.1) ≡ m
 cont_req_only (InitReq j n hs) x e = absurd cc
@@ -101,7 +100,7 @@ cont_req_stands (ShareResp n s r) a = absurd cc
 pub cont_req_lawful : Lawful cont_req
 cont_req_lawful =
     variant_lawful (λ p. ContReq p.0 p.1) cont_req_of (job ⊗ items step) (λ x. refl) cont_req_only
-        (then_lawful job (items step) job_lawful (items_lawful step step_lawful))
+    (then_lawful job (items step) job_lawful (items_lawful step step_lawful))
 
 cont_resp_only : (m : Message) (x : JobNo × List (Tagged Status)) → cont_resp_of m ≡ Some x → (let p : JobNo × List (Tagged Status) = x in ContResp p.0 p.1) ≡ m
 cont_resp_only (InitReq j n hs) x e = absurd cc
@@ -122,7 +121,7 @@ cont_resp_stands (ShareResp n s r) a = absurd cc
 pub cont_resp_lawful : Lawful cont_resp
 cont_resp_lawful =
     variant_lawful (λ p. ContResp p.0 p.1) cont_resp_of (job ⊗ items status) (λ x. refl) cont_resp_only
-        (then_lawful job (items status) job_lawful (items_lawful status status_lawful))
+    (then_lawful job (items status) job_lawful (items_lawful status status_lawful))
 
 share_req_only : (m : Message) (x : List ℕ × (ℕ × (ℕ × List ℕ))) → share_req_of m ≡ Some x → (let p : List ℕ × (ℕ × (ℕ × List ℕ)) = x in ShareReq p.0 p.1.0 p.1.1.0 p.1.1.1) ≡ m
 share_req_only (InitReq j n hs) x e = absurd cc
@@ -143,7 +142,7 @@ share_req_stands (ShareResp n s r) a = absurd cc
 pub share_req_lawful : Lawful share_req
 share_req_lawful =
     variant_lawful (λ p. ShareReq p.0 p.1.0 p.1.1.0 p.1.1.1) share_req_of (name ⊗ time ⊗ any_u32 ⊗ checksum) (λ x. refl) share_req_only
-        (then_lawful name (time ⊗ any_u32 ⊗ checksum) name_lawful (then_lawful time (any_u32 ⊗ checksum) time_lawful (then_lawful any_u32 checksum any_u32_lawful (cells_lawful 32 any_text))))
+    (then_lawful name (time ⊗ any_u32 ⊗ checksum) name_lawful (then_lawful time (any_u32 ⊗ checksum) time_lawful (then_lawful any_u32 checksum any_u32_lawful (cells_lawful 32 any_text))))
 
 share_resp_only : (m : Message) (x : List ℕ × (ℕ × Reply)) → share_resp_of m ≡ Some x → (let p : List ℕ × (ℕ × Reply) = x in ShareResp p.0 p.1.0 p.1.1) ≡ m
 share_resp_only (InitReq j n hs) x e = absurd cc
@@ -164,7 +163,7 @@ share_resp_stands (ShareResp n s r) a = refl
 pub share_resp_lawful : Lawful share_resp
 share_resp_lawful =
     variant_lawful (λ p. ShareResp p.0 p.1.0 p.1.1) share_resp_of (name ⊗ time ⊗ reply) (λ x. refl) share_resp_only
-        (then_lawful name (time ⊗ reply) name_lawful (then_lawful time reply time_lawful reply_lawful))
+    (then_lawful name (time ⊗ reply) name_lawful (then_lawful time reply time_lawful reply_lawful))
 
 message_choices : (b : ℕ) (g : Grammar Message) → message_by b ≡ Some g → IsChoice first_of_message 4194303 b g
 message_choices b g =

@@ -20,7 +20,7 @@ report_fields = name ⊗ identifier ⊗ time ⊗ fixed (number w16 0 0) 0 (bytes
 abbrev pub report : Grammar Report
 report =
     shaped (λ p. record { name = p.0; id = p.1.0; time = p.1.1.0; public = p.1.1.1.0; leader = p.1.1.1.1.0; helper = p.1.1.1.1.1 })
-        (λ r. (r.name, (r.id, (r.time, (r.public, (r.leader, r.helper)))))) report_fields
+    (λ r. (r.name, (r.id, (r.time, (r.public, (r.leader, r.helper)))))) report_fields
 
 -- job, name, and what the helper gets of each report
 abbrev pub init_req_of : Message → Option (JobNo × (List ℕ × List (Tagged Half)))

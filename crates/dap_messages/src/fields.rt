@@ -106,11 +106,7 @@ pub fn read_name(cursor: &mut Cursor<'_>) -> Result<Name, Form>
 
 /// A u32 length of at most `longest`, and that many bytes.
 #[tactic(auto, using(crate::specs::Laws::input_past))]
-pub fn read_bytes(
-    alloc: Global,
-    cursor: &mut Cursor<'_>,
-    longest: u32,
-) -> Result<Bytes, ReadFault>
+pub fn read_bytes(alloc: Global, cursor: &mut Cursor<'_>, longest: u32) -> Result<Bytes, ReadFault>
     ensures { Gives (bytes longest) cursor.old result cursor.new }
 {
     let len = read_u32(cursor, 0, longest)?;
@@ -118,6 +114,13 @@ pub fn read_bytes(
         return Err(cut_off(cursor).into());
     };
     Ok(Bytes::new(part.to_vec(alloc)?))
+}
+
+/// Appends bytes as they are.
+pub fn put_slice(out: &mut Vec<u8>, part: &[u8]) -> Result<(), AllocError>
+    ensures { OnOk result (out.new.items ≡ out.old.items ++ part.now) }
+{
+    out.extend_from_slice(part)
 }
 
 /// Appends a name with its length.

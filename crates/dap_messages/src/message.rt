@@ -2,11 +2,14 @@
 
 ghost use Rattle.std.specs.Prelude.{◌≡◌, ◌++◌, IsTrue, OnOk};
 ghost use Rattle.dap_messages.specs.Spelled.{Gives};
+ghost use Rattle.dap_messages.specs.declared.message.Message.TheVariants.{ShareReq};
 ghost use Rattle.dap_messages.specs.Messages.{init_req, init_resp, cont_req, cont_resp, share_req, share_resp};
 
 use crate::body::{Half, Status, Step};
 use crate::fault::ReadFault;
-use crate::fields::{LATEST_TIME, cut_off, put_name, read_array, read_name, read_u32, read_u64};
+use crate::fields::{
+    LATEST_TIME, cut_off, put_name, put_slice, read_array, read_name, read_u32, read_u64,
+};
 use crate::item::Items;
 use crate::job::JobNo;
 use crate::reply::Reply;
@@ -79,10 +82,7 @@ impl Spelled for Message {
             }
             Message::ShareReq(name, start, count, checksum) => {
                 put_u8(out, 5)?;
-                put_name(out, name)?;
-                put_u64(out, *start)?;
-                put_u32(out, *count)?;
-                out.extend_from_slice(checksum)
+                put_share_req(out, name, *start, *count, checksum)
             }
             Message::ShareResp(name, start, reply) => {
                 put_u8(out, 6)?;
@@ -136,6 +136,21 @@ fn read_share_req(cursor: &mut Cursor<'_>) -> Result<Message, ReadFault>
     let count = read_u32(cursor, 0, u32::MAX)?;
     let checksum = read_array(cursor)?;
     Ok(Message::ShareReq(name, start, count, checksum))
+}
+
+fn put_share_req(
+    out: &mut Vec<u8>,
+    name: &Name,
+    start: u64,
+    count: u32,
+    checksum: &[u8; 32],
+) -> Result<(), AllocError>
+    ensures { OnOk result (out.new.items ≡ out.old.items ++ share_req.spell (ShareReq name.now start count checksum.now)) }
+{
+    put_name(out, name)?;
+    put_u64(out, start)?;
+    put_u32(out, count)?;
+    put_slice(out, checksum)
 }
 
 fn read_share_resp(alloc: Global, cursor: &mut Cursor<'_>) -> Result<Message, ReadFault>

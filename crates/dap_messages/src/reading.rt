@@ -1,6 +1,6 @@
 //! Reports and messages as whole inputs.
 
-ghost use Rattle.std.specs.Prelude.{◌≡◌, ◌≤◌, IsTrue, IfOk, length};
+ghost use Rattle.std.specs.Prelude.{◌≡◌, IsTrue, IfOk};
 ghost use Rattle.dap_messages.specs.Messages.{report, message};
 ghost use Rattle.dap_messages.specs.Spelled.{Reads, IsOnly};
 

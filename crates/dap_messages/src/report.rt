@@ -1,14 +1,11 @@
 //! Reports.
 
-ghost use Rattle.std.specs.Prelude.{◌≡◌, ◌≤◌, IsTrue, IfOk, length};
-ghost use Rattle.dap_messages.specs.Spelled.{Reads, IsOnly};
-
 use crate::body::{MOST_HELPER, MOST_PUBLIC};
 use crate::fault::ReadFault;
 use crate::fields::{
     LATEST_TIME, put_bytes, put_name, read_array, read_bytes, read_name, read_u16, read_u64,
 };
-use crate::spelled::{Spelled, read_all, write_all};
+use crate::spelled::Spelled;
 use dap_bytes::{Bytes, Cursor, Id, Name, put_u16, put_u64};
 use std::alloc::{AllocError, Global};
 

@@ -1,4 +1,4 @@
-use Rattle.std.proofs.Common.{◌<◌, arith}
+use Rattle.std.proofs.Common.{arith}
 use Rattle.dap_messages.specs.Laws.{is_found, is_only}
 use Rattle.dap_messages.proofs.spelled.read_all.Goals as goal
 
