@@ -120,7 +120,6 @@ impl Buckets {
 
     /// The sum of a batch's out shares: noughts where it has none.
     pub fn total<V: Vdaf>(&self, vdaf: &V, name: &Name, start: u64) -> Result<Vec<u8>, AllocError>
-        requires { IsSum (V.functions vdaf.now).space (bucket_of self.now name.now start).sum }
         ensures { IfOk result (λ v. v.items ≡ sum_or_zero (V.functions vdaf.now).space (bucket_of self.now name.now start).sum) }
     {
         match self.buckets.get(&(*name, start)) {
