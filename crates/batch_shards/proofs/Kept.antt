@@ -1,8 +1,10 @@
 -- What is kept of a batch, by the entries of the ordered map.
-use Rattle.std.proofs.Common.{◌≡◌, ℕ, List, Bool, true, false, Option, Some, None, Result, Ok, Err, OnOk, OnErr, IsSome, cond, sym, ap, ◌∙◌, refl, subst}
+use Rattle.std.proofs.Common.{◌≡◌, ℕ, List, Bool, true, false, Option, Some, None, Result, Ok, Err, OnOk, OnErr, IsSome, cond, inl, inr, ◌⊎◌, sym, ap, ◌∙◌, refl, subst}
 use Rattle.std.specs.Prelude.{unwrap_or}
 use Rattle.std.specs.Ordering.{nat_cmp, is_eq}
-use Rattle.std.specs.Cmp.{IsTotalOrder, nat_cmp_total}
+use Rattle.std.specs.declared.cmp.Ordering.{Ordering}
+use Rattle.std.specs.declared.cmp.Ordering.TheVariants.{Less, Equal, Greater}
+use Rattle.std.specs.Cmp.{IsTotalOrder, nat_cmp_total, tied_itself}
 use Rattle.std.specs.Cmp.Lexicographic.{slice_cmp, nat_list_cmp_total}
 use Rattle.std.specs.Map.{lookup, set_value}
 use Rattle.std.proofs.lemmas.Map.Steps.{set_value_same}
@@ -12,7 +14,11 @@ use Rattle.dap_batch.proofs.Maps.{pair-same, pair-total, get-lookup, inserted}
 use Rattle.batch_shards.specs.declared.bucket.Bucket.{Bucket}
 use Rattle.batch_shards.specs.declared.bucket.BucketFault.{BucketFault}
 use Rattle.batch_shards.specs.declared.bucket.BucketFault.TheVariants.{Closed, NoMemory}
-use Rattle.batch_shards.specs.Bucket.{nothing, closed_for_good, Opens}
+use Rattle.field_laws.specs.Vector.{add_each}
+use Rattle.vdaf_api.specs.declared.space.Space.{Space}
+use Rattle.vdaf_api.specs.Vectors.{SpaceLaws, IsOut}
+use Rattle.vdaf_api.specs.Sums.{vector-plus}
+use Rattle.batch_shards.specs.Bucket.{nothing, closed_for_good, sum_with, IsSum, Opens}
 use Rattle.batch_shards.specs.Batches.{Batch, Kept, batch_order, bucket_of, changed}
 
 pub batch_order-total : IsTotalOrder batch_order
@@ -82,3 +88,28 @@ closed_for_good-same b e = let k = sym e in λ i. record { reports = b.reports; 
 
 pub not_closed : (b : Bucket) → b ≡ nothing → b.closed ≡ true → ⊥
 not_closed b is e = let k : false ≡ true = sym (ap (λ (x : Bucket). x.closed) is) ∙ e in cc
+
+-- a sum with one out share more is an out share
+pub sum-out : {s : Space} → SpaceLaws s → (sum : Option (List ℕ)) (out : List ℕ) → IsSum s sum → IsOut s out → IsSum s (sum_with s sum out)
+sum-out laws None out held is = is
+sum-out {s} laws (Some sum) out held is = (add_each s.modulus held.0 is.0, vector-plus laws sum out held.0 is.0 held.1 is.1)
+
+pub bucket_of-changed : (kept : Kept) (name : List ℕ) (start : ℕ) (b : Bucket) → bucket_of (changed kept name start b) name start ≡ b
+bucket_of-changed kept name start b =
+    let key : Batch = (name, start) in
+    ap (λ o. unwrap_or o nothing)
+    (map.get-insert batch_order-total kept key b key ∙ ap (λ (r : Ordering). cond (is_eq r) (Some b) (map.get kept key)) (tied_itself batch_order-total key))
+
+pub bucket_of-other : (kept : Kept) (name other : List ℕ) (start later : ℕ) (b : Bucket) → ((name ≡ other → ⊥) ⊎ (start ≡ later → ⊥))
+    → bucket_of (changed kept name start b) other later ≡ bucket_of kept other later
+bucket_of-other kept name other start later b apart =
+    ap (λ o. unwrap_or o nothing) (map.get-insert batch_order-total kept (name, start) b (other, later) ∙ go (batch_order (other, later) (name, start)) refl)
+  where
+    differ : ((name ≡ other → ⊥) ⊎ (start ≡ later → ⊥)) → ◌≡◌ {A = Batch} (other, later) (name, start) → ⊥
+    differ (inl names) e = names (sym (ap (λ (x : Batch). x.0) e))
+    differ (inr starts) e = starts (sym (ap (λ (x : Batch). x.1) e))
+
+    go : (r : Ordering) → batch_order (other, later) (name, start) ≡ r → cond (is_eq r) (Some b) (map.get kept (other, later)) ≡ map.get kept (other, later)
+    go Less e = refl
+    go Equal e = absurd (differ apart (batch_order-same (other, later) (name, start) e))
+    go Greater e = refl

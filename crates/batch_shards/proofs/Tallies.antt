@@ -33,9 +33,9 @@ pub tally-push : {s : Space} → SpaceLaws s → (rs : List Report) (rejected : 
 tally-push {s} laws rs rejected closed r out =
     let count : one_more (min (length rs) most) ≡ min (length (rs ++ r ∷ [])) most = one_more-min (length rs) ∙ ap (λ n. min n most) (sym (length-append rs (r ∷ []))) in
     let checksum : xor_bytes (checksum_of (ids rs)) (sha256 r.id) ≡ checksum_of (ids (rs ++ r ∷ [])) =
-      sym (checksum_of-push (ids rs) r.id) ∙ ap checksum_of (sym (map-append (λ (x : Report). x.id) rs (r ∷ []))) in
+    sym (checksum_of-push (ids rs) r.id) ∙ ap checksum_of (sym (map-append (λ (x : Report). x.id) rs (r ∷ []))) in
     let sum : sum_with s (sum_of s (outs rs)) r.out ≡ sum_of s (outs (rs ++ r ∷ [])) =
-      sum_of-push laws (outs rs) r.out out ∙ ap (sum_of s) (sym (map-append (λ (x : Report). x.out) rs (r ∷ []))) in
+    sum_of-push laws (outs rs) r.out out ∙ ap (sum_of s) (sym (map-append (λ (x : Report). x.out) rs (r ∷ []))) in
     λ i. record { reports = count i; rejected = min rejected most; checksum = checksum i; sum = sum i; closed = closed }
 
 pub sum_of-total : (s : Space) (xs : List (List ℕ)) → sum_or_zero s (sum_of s xs) ≡ total s xs
@@ -59,9 +59,9 @@ tally-middle {s} laws before after r rejected closed =
     let long : length (before ++ r ∷ after) ≡ length (r ∷ (before ++ after)) = omega (arith, length-append before (r ∷ after), length-append before after) in
     let count = ap (λ n. min n most) long in
     let checksum : checksum_of (ids (before ++ r ∷ after)) ≡ checksum_of (ids (r ∷ (before ++ after))) =
-      ap checksum_of (map-append (λ (x : Report). x.id) before (r ∷ after)) ∙ checksum_of-middle r.id (ids before) (ids after)
-      ∙ ap (λ l. checksum_of (r.id ∷ l)) (sym (map-append (λ (x : Report). x.id) before after)) in
+    ap checksum_of (map-append (λ (x : Report). x.id) before (r ∷ after)) ∙ checksum_of-middle r.id (ids before) (ids after)
+    ∙ ap (λ l. checksum_of (r.id ∷ l)) (sym (map-append (λ (x : Report). x.id) before after)) in
     let sum : sum_of s (outs (before ++ r ∷ after)) ≡ sum_of s (outs (r ∷ (before ++ after))) =
-      ap (sum_of s) (map-append (λ (x : Report). x.out) before (r ∷ after)) ∙ sum_of-middle laws r.out (outs before) (outs after)
-      ∙ ap (λ l. sum_of s (r.out ∷ l)) (sym (map-append (λ (x : Report). x.out) before after)) in
+    ap (sum_of s) (map-append (λ (x : Report). x.out) before (r ∷ after)) ∙ sum_of-middle laws r.out (outs before) (outs after)
+    ∙ ap (λ l. sum_of s (r.out ∷ l)) (sym (map-append (λ (x : Report). x.out) before after)) in
     λ i. record { reports = count i; rejected = min rejected most; checksum = checksum i; sum = sum i; closed = closed }

@@ -59,6 +59,7 @@ impl Buckets {
         ensures closed { Opens result (bucket_of self.old name.now start).closed }
         ensures ok { OnOk result (self.new ≡ changed self.old name.now start
             (with_report (V.functions vdaf.now).space id.now out.now (bucket_of self.old name.now start))) }
+        ensures held_again { IsSum (V.functions vdaf.now).space (bucket_of self.new name.now start).sum }
         ensures err { OnErr result (self.new ≡ self.old) }
     {
         let space = vdaf.space();

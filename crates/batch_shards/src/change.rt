@@ -27,12 +27,19 @@ impl Bucket {
 
     /// Counts a report and adds its out share to the sum. `Closed` exactly where the batch is closed. A refusal changes
     /// nothing.
-    pub fn add(&mut self, alloc: Global, space: &Space, id: &Id, out: &[u8]) -> Result<(), BucketFault>
+    pub fn add(
+        &mut self,
+        alloc: Global,
+        space: &Space,
+        id: &Id,
+        out: &[u8],
+    ) -> Result<(), BucketFault>
         requires space { SpaceLaws space.now }
         requires out { IsOut space.now out.now }
         requires held { IsSum space.now self.old.sum }
         ensures closed { Opens result self.old.closed }
         ensures ok { OnOk result (self.new ≡ with_report space.now id.now out.now self.old) }
+        ensures held_again { IsSum space.now self.new.sum }
         ensures err { OnErr result (self.new ≡ self.old) }
     {
         if self.closed {

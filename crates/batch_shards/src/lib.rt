@@ -12,7 +12,9 @@ mod laws;
 pub use bucket::BucketFault;
 pub use buckets::Buckets;
 pub use count::Count;
-pub use laws::{a_bucket_is_that_of_its_reports, no_order_changes_a_bucket};
+pub use laws::{
+    a_bucket_is_that_of_its_reports, a_change_is_of_one_batch, no_order_changes_a_bucket,
+};
 
-
-
+#[cfg(test)]
+mod tests;

@@ -26,7 +26,7 @@ returns-in-Some-clause-again c closed =
     let is : bucket_of now name start ≡ c.in-Some.bucket.now = held es now name start c.in-Some.bucket.now c.self.view_is c.in-Some.ensures.value in
     let was : c.in-Some.bucket.now.closed ≡ true = subst (λ (b : Bucket). b.closed ≡ true) is closed in
     rewritten es (c.get_mut.follows.lender wrote).entries now name start c.in-Some.bucket.now wrote c.self.view_is c.in-Some.ensures.value (c.get_mut.follows.holds wrote).0
-      (c.close.ensures ∙ closed_for_good-same c.in-Some.bucket.now was)
+    (c.close.ensures ∙ closed_for_good-same c.in-Some.bucket.now was)
 
 pub returns-in-Ok-clause-ok : goal.returns-in-Ok-clause-ok
 returns-in-Ok-clause-ok c =
@@ -41,4 +41,4 @@ returns-in-Ok-clause-ok c =
 pub returns-in-Ok-clause-again : goal.returns-in-Ok-clause-again
 returns-in-Ok-clause-again c closed =
     absurd (not_closed (bucket_of c.args.self.now c.args.name.now c.args.start)
-      (not_held c.self.inside.buckets.entries c.args.self.now c.args.name.now c.args.start c.self.view_is c.in_default.ensures.value) closed)
+    (not_held c.self.inside.buckets.entries c.args.self.now c.args.name.now c.args.start c.self.view_is c.in_default.ensures.value) closed)

@@ -8,7 +8,7 @@ pub returns-in-Some : goal.returns-in-Some
 returns-in-Some g c =
     let is = held c.self.inside.buckets.entries c.args.self.now c.args.name.now c.args.start c.in-Some.bucket.now c.self.view_is c.in-Some.ensures.value in
     subst (λ (b : Bucket). IfOk c.total.result (λ v. v.items ≡ sum_or_zero (g.V.Vdaf.functions c.args.vdaf.now).space b.sum)) (sym is)
-      (subst (λ s. IfOk c.total.result (λ v. v.items ≡ sum_or_zero s c.in-Some.bucket.now.sum)) c.space.ensures c.total.ensures)
+    (subst (λ s. IfOk c.total.result (λ v. v.items ≡ sum_or_zero s c.in-Some.bucket.now.sum)) c.space.ensures c.total.ensures)
 
 pub returns-in-None : goal.returns-in-None
 returns-in-None g c =
