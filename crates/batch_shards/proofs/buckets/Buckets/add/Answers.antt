@@ -1,0 +1,66 @@
+use Rattle.std.proofs.Common.{◌≡◌, Err, sym, ap, ◌∙◌, subst}
+use Rattle.batch_shards.specs.declared.bucket.Bucket.{Bucket}
+use Rattle.batch_shards.specs.Bucket.{with_report, nothing, IsSum, Opens}
+use Rattle.batch_shards.specs.Batches.{bucket_of, changed}
+use Rattle.batch_shards.proofs.Kept.{held, not_held, not_lent, written, rewritten, some-found, opens-new, on-ok, on-err}
+use Rattle.batch_shards.proofs.buckets.Buckets.add.Goals as goal
+
+pub add-requires-clause-held : goal.add-requires-clause-held
+add-requires-clause-held g c =
+    let space = (g.V.Vdaf.functions c.args.vdaf.now).space in
+    let is = held c.self.inside.buckets.entries c.args.self.now c.args.name.now c.args.start c.in-Some.bucket.now c.self.view_is c.in-Some.ensures.value in
+    subst (λ s. IsSum s c.in-Some.bucket.now.sum) (sym c.space-space.ensures) (subst (λ (b : Bucket). IsSum space b.sum) is c.requires.held)
+
+pub returns-in-Some-clause-closed : goal.returns-in-Some-clause-closed
+returns-in-Some-clause-closed g c =
+    let is = held c.self.inside.buckets.entries c.args.self.now c.args.name.now c.args.start c.in-Some.bucket.now c.self.view_is c.in-Some.ensures.value in
+    subst (λ (b : Bucket). Opens c.add.result b.closed) (sym is) c.add.ensures.closed
+
+pub returns-in-Some-clause-ok : goal.returns-in-Some-clause-ok
+returns-in-Some-clause-ok g c =
+    let es = c.self.inside.buckets.entries in
+    let now = c.args.self.now in
+    let name = c.args.name.now in
+    let start = c.args.start in
+    let id = c.args.id.now in
+    let out = c.args.out.now in
+    let wrote = c.add.new.self in
+    let is : bucket_of now name start ≡ c.in-Some.bucket.now = held es now name start c.in-Some.bucket.now c.self.view_is c.in-Some.ensures.value in
+    on-ok c.add.result (λ e.
+    written es (c.get_mut.follows.lender wrote).entries now name start wrote c.self.view_is ((c.get_mut.follows.holds wrote).3 (some-found _ c.in-Some.bucket.now c.in-Some.ensures.value)).0
+    ∙ ap (changed now name start) (e ∙ ap (λ s. with_report s id out c.in-Some.bucket.now) c.space-space.ensures ∙ ap (with_report (g.V.Vdaf.functions c.args.vdaf.now).space id out) (sym is)))
+    c.add.ensures.ok
+
+pub returns-in-Some-clause-err : goal.returns-in-Some-clause-err
+returns-in-Some-clause-err g c =
+    let wrote = c.add.new.self in
+    on-err c.add.result (λ e.
+    rewritten c.self.inside.buckets.entries (c.get_mut.follows.lender wrote).entries c.args.self.now c.args.name.now c.args.start c.in-Some.bucket.now wrote c.self.view_is
+    c.in-Some.ensures.value (c.get_mut.follows.holds wrote).0 e) c.add.ensures.err
+
+pub returns-in-Ok-clause-closed : goal.returns-in-Ok-clause-closed
+returns-in-Ok-clause-closed g c =
+    opens-new c.keep.result (bucket_of c.args.self.now c.args.name.now c.args.start)
+    (not_held c.self.inside.buckets.entries c.args.self.now c.args.name.now c.args.start c.self.view_is c.in_default.ensures.value) c.keep.ensures.memory
+
+pub returns-in-Ok-clause-ok : goal.returns-in-Ok-clause-ok
+returns-in-Ok-clause-ok g c =
+    let now = c.args.self.now in
+    let name = c.args.name.now in
+    let start = c.args.start in
+    let id = c.args.id.now in
+    let out = c.args.out.now in
+    let none : bucket_of now name start ≡ nothing = not_held c.self.inside.buckets.entries now name start c.self.view_is c.in_default.ensures.value in
+    on-ok c.keep.result (λ e.
+    e
+    ∙ ap (λ m. changed m name start c.add-2.new.self) (not_lent c.self.inside.buckets c.get_mut.follows.lender-at-none now c.get_mut.follows.holds-at-none c.self.view_is)
+    ∙ ap (changed now name start) (
+    c.in-Ok.ensures.ok ∙ ap (λ s. with_report s id out c.new-bucket.result) c.space-space.ensures
+    ∙ ap (with_report (g.V.Vdaf.functions c.args.vdaf.now).space id out) (c.new-bucket.ensures ∙ sym none)))
+    c.keep.ensures.ok
+
+pub returns-in-Err-clause-closed : goal.returns-in-Err-clause-closed
+returns-in-Err-clause-closed g c =
+    let none : bucket_of c.args.self.now c.args.name.now c.args.start ≡ nothing =
+    not_held c.self.inside.buckets.entries c.args.self.now c.args.name.now c.args.start c.self.view_is c.in_default.ensures.value in
+    subst (λ (b : Bucket). Opens (Err c.in-Err.fault) b.closed) (c.new-bucket.ensures ∙ sym none) c.in-Err.ensures.closed

@@ -1,0 +1,52 @@
+use Rattle.std.proofs.Common.{◌≡◌, Err, sym, ap, ◌∙◌, subst}
+use Rattle.batch_shards.specs.declared.bucket.Bucket.{Bucket}
+use Rattle.batch_shards.specs.Bucket.{with_rejected, nothing, Opens}
+use Rattle.batch_shards.specs.Batches.{bucket_of, changed}
+use Rattle.batch_shards.proofs.Kept.{held, not_held, not_lent, written, rewritten, some-found, opens-new, on-ok, on-err}
+use Rattle.batch_shards.proofs.buckets.Buckets.reject.Goals as goal
+
+pub returns-in-Some-clause-closed : goal.returns-in-Some-clause-closed
+returns-in-Some-clause-closed c =
+    let is = held c.self.inside.buckets.entries c.args.self.now c.args.name.now c.args.start c.in-Some.bucket.now c.self.view_is c.in-Some.ensures.value in
+    subst (λ (b : Bucket). Opens c.reject.result b.closed) (sym is) c.reject.ensures.closed
+
+pub returns-in-Some-clause-ok : goal.returns-in-Some-clause-ok
+returns-in-Some-clause-ok c =
+    let es = c.self.inside.buckets.entries in
+    let now = c.args.self.now in
+    let name = c.args.name.now in
+    let start = c.args.start in
+    let wrote = c.reject.new.self in
+    let is : bucket_of now name start ≡ c.in-Some.bucket.now = held es now name start c.in-Some.bucket.now c.self.view_is c.in-Some.ensures.value in
+    on-ok c.reject.result (λ e.
+    written es (c.get_mut.follows.lender wrote).entries now name start wrote c.self.view_is ((c.get_mut.follows.holds wrote).3 (some-found _ c.in-Some.bucket.now c.in-Some.ensures.value)).0
+    ∙ ap (changed now name start) (e ∙ ap with_rejected (sym is))) c.reject.ensures.ok
+
+pub returns-in-Some-clause-err : goal.returns-in-Some-clause-err
+returns-in-Some-clause-err c =
+    let wrote = c.reject.new.self in
+    on-err c.reject.result (λ e.
+    rewritten c.self.inside.buckets.entries (c.get_mut.follows.lender wrote).entries c.args.self.now c.args.name.now c.args.start c.in-Some.bucket.now wrote c.self.view_is
+    c.in-Some.ensures.value (c.get_mut.follows.holds wrote).0 e) c.reject.ensures.err
+
+pub returns-in-Ok-clause-closed : goal.returns-in-Ok-clause-closed
+returns-in-Ok-clause-closed c =
+    opens-new c.keep.result (bucket_of c.args.self.now c.args.name.now c.args.start)
+    (not_held c.self.inside.buckets.entries c.args.self.now c.args.name.now c.args.start c.self.view_is c.in_default.ensures.value) c.keep.ensures.memory
+
+pub returns-in-Ok-clause-ok : goal.returns-in-Ok-clause-ok
+returns-in-Ok-clause-ok c =
+    let now = c.args.self.now in
+    let name = c.args.name.now in
+    let start = c.args.start in
+    let none : bucket_of now name start ≡ nothing = not_held c.self.inside.buckets.entries now name start c.self.view_is c.in_default.ensures.value in
+    on-ok c.keep.result (λ e.
+    e
+    ∙ ap (λ m. changed m name start c.reject-2.new.self) (not_lent c.self.inside.buckets c.get_mut.follows.lender-at-none now c.get_mut.follows.holds-at-none c.self.view_is)
+    ∙ ap (changed now name start) (c.in-Ok.ensures.ok ∙ ap with_rejected (c.new-bucket.ensures ∙ sym none))) c.keep.ensures.ok
+
+pub returns-in-Err-clause-closed : goal.returns-in-Err-clause-closed
+returns-in-Err-clause-closed c =
+    let none : bucket_of c.args.self.now c.args.name.now c.args.start ≡ nothing =
+    not_held c.self.inside.buckets.entries c.args.self.now c.args.name.now c.args.start c.self.view_is c.in_default.ensures.value in
+    subst (λ (b : Bucket). Opens (Err c.in-Err.fault) b.closed) (c.new-bucket.ensures ∙ sym none) c.in-Err.ensures.closed

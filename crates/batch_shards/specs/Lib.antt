@@ -1,0 +1,3 @@
+pub mod Bucket
+pub mod Batches
+pub mod Reports

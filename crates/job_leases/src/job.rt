@@ -1,0 +1,48 @@
+//! An open job.
+
+use dap_messages::JobNo;
+
+/// What an open job waits for. In `Combine` and `Finish` it waits for a worker, in the others for the helper.
+#[derive(Clone, Copy, Debug, PartialEq, Eq)]
+pub enum Stage {
+    AwaitInit,
+    Combine,
+    AwaitCont,
+    Finish,
+}
+
+/// A worker's hold on a job, from the turn in which it was given on.
+#[derive(Clone, Copy, Debug, PartialEq, Eq)]
+pub struct Lease {
+    pub turn: u64,
+    pub worker: u8,
+}
+
+/// An open job with its stage, and the lease that it was given last if none has ended it since.
+#[derive(Clone, Copy, Debug, PartialEq, Eq)]
+pub struct OpenJob {
+    pub job: JobNo,
+    pub stage: Stage,
+    pub lease: Option<Lease>,
+}
+
+impl Lease {
+    /// For how many turns a lease stands.
+    pub const TURNS: u64 = 16;
+}
+
+impl OpenJob {
+    ghost use Rattle.std.specs.Prelude.{◌≡◌};
+    ghost use Rattle.job_leases.specs.Jobs.{is_free};
+
+    /// Whether a worker can take the job up in a turn: it waits for one, and no lease stands.
+    pub fn is_free(&self, turn: u64) -> bool
+        ensures { result ≡ is_free turn self.now }
+    {
+        let waits = matches!(self.stage, Stage::Combine | Stage::Finish);
+        waits
+            && !self
+                .lease
+                .is_some_and(|lease| turn.saturating_sub(lease.turn) < Lease::TURNS)
+    }
+}
