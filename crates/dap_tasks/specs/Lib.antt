@@ -1,3 +1,4 @@
 pub mod Judged
 pub mod Task
+pub mod Tasks
 pub mod Trial

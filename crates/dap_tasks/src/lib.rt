@@ -5,9 +5,14 @@
 mod cause;
 mod keys;
 mod task;
+mod tasks;
 mod trials;
 
 pub use cause::Cause;
 pub use keys::SealKeys;
 pub use task::Task;
+pub use tasks::Tasks;
 pub use trials::trial;
+
+#[cfg(test)]
+mod tests;
