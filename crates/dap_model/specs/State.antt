@@ -3,16 +3,22 @@ use Rattle.std.specs.Prelude.{ℕ, ◌+◌, ◌-◌, ◌%◌, List, [], ◌++◌
 use Rattle.std.specs.List.{list_any, find}
 use Rattle.std.specs.Option.{option_map, option_to_list}
 use Rattle.std.specs.Str.{bytes_eq}
+use Rattle.vdaf_api.specs.Functions.{Functions, Parts}
+use Rattle.vdaf_api.specs.Verdict.{numbers_of, opened, verdict}
+use Rattle.vdaf_api.specs.declared.kind.Kind.{Kind}
 use Rattle.dap_tasks.specs.Task.{PlainTask}
 
--- An accepted report: its task's name, its identifier and time, its bytes, and its content, a vector of
--- field elements, or none where its verdict is failed.
+-- an accepted report: its task's name, its identifier, its time and its shares
 pub record Accepted : Type 0 where
   pub task : List ℕ
   pub id : List ℕ
   pub time : ℕ
-  pub report : List ℕ
-  pub content : Option (List ℕ)
+  pub shares : Parts
+
+-- the bytes of a report as long as no format spells it: its time and the lengths of two shares, which are numbers of any
+-- size, and all its shares
+abbrev pub report_of : Accepted → List ℕ
+report_of a = a.time ∷ length a.shares.public ∷ length a.shares.leader ∷ (a.shares.public ++ (a.shares.leader ++ a.shares.helper))
 
 -- a collected batch: a task's name and the batch's start
 pub record Batch : Type 0 where
@@ -48,20 +54,24 @@ has_key name id a = bytes_eq a.task name && bytes_eq a.id id
 
 -- the bytes of the accepted report of this task with this identifier, if there is one
 abbrev pub known_in : List Accepted → List ℕ → List ℕ → Option (List ℕ)
-known_in accepted name id = option_map (λ a. a.report) (find (has_key name id) accepted)
+known_in accepted name id = option_map report_of (find (has_key name id) accepted)
 
 -- of this task and in the batch that starts there
 abbrev pub in_batch : PlainTask → ℕ → Accepted → Bool
 in_batch task start a = bytes_eq a.task task.name && nat_eq (batch_of a.time task.precision) start
 
+-- the content of a report of the task, which is a vector of numbers, or none where its verdict is failed
+abbrev pub content_of : (Kind → Functions) → PlainTask → Accepted → Option (List ℕ)
+content_of f task a = numbers_of (f task.kind) (verdict (f task.kind) (opened task.verify a.id a.shares))
+
 -- the contents of a batch's reports, in order
-abbrev pub contents_in : PlainTask → ℕ → List Accepted → List (List ℕ)
-contents_in task start [] = []
-contents_in task start (a ∷ more) =
-    if in_batch task start a then option_to_list a.content ++ contents_in task start more else contents_in task start more
+abbrev pub contents_in : (Kind → Functions) → PlainTask → ℕ → List Accepted → List (List ℕ)
+contents_in f task start [] = []
+contents_in f task start (a ∷ more) =
+    (if in_batch task start a then option_to_list (content_of f task a) else []) ++ contents_in f task start more
 
 -- how many of a batch's reports have no content
-abbrev pub rejected_in : PlainTask → ℕ → List Accepted → ℕ
-rejected_in task start [] = 0
-rejected_in task start (a ∷ more) =
-    if in_batch task start a && is_none a.content then rejected_in task start more + 1 else rejected_in task start more
+abbrev pub rejected_in : (Kind → Functions) → PlainTask → ℕ → List Accepted → ℕ
+rejected_in f task start [] = 0
+rejected_in f task start (a ∷ more) =
+    (if in_batch task start a && is_none (content_of f task a) then 1 else 0) + rejected_in f task start more

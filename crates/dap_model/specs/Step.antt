@@ -5,14 +5,15 @@ use Rattle.std.specs.Option.{option_map_or}
 use Rattle.vdaf_api.specs.Functions.{Functions}
 use Rattle.vdaf_api.specs.Totals.{total_numbers}
 use Rattle.vdaf_api.specs.declared.kind.Kind.{Kind}
-use Rattle.dap_tasks.specs.Judged.{Judged, again, barred, added, judged}
+use Rattle.dap_tasks.specs.Judged.{judged}
 use Rattle.dap_tasks.specs.Task.{PlainTask, has_name}
 use Rattle.dap_tasks.specs.declared.cause.Cause.{Cause}
 use Rattle.dap_tasks.specs.declared.cause.Cause.TheVariants as cause
+use Rattle.dap_tasks.specs.declared.cause.Judged.{Judged}
+use Rattle.dap_tasks.specs.declared.cause.Judged.TheVariants.{Again, Barred, Added}
 use Rattle.dap_script.specs.declared.line.Line.{Line}
 use Rattle.dap_script.specs.declared.line.Line.TheVariants as line
-use Rattle.dap_model.specs.Report.{accepted_as}
-use Rattle.dap_model.specs.State.{Accepted, State, batch_of, contents_in, is_collected, known_in, rejected_in}
+use Rattle.dap_model.specs.State.{Accepted, State, batch_of, contents_in, is_collected, known_in, rejected_in, report_of}
 use Rattle.dap_model.specs.declared.printed.Printed.{Printed}
 use Rattle.dap_model.specs.declared.printed.Printed.TheVariants.{Collected, Small, Refused}
 
@@ -28,34 +29,35 @@ refused s k why = (s, Refused k why ∷ [])
 
 -- what follows from the judgement of a report
 abbrev pub after_judgement : State → ℕ → Accepted → Judged → Outcome
-after_judgement s k new again = (s, [])
-after_judgement s k new (barred why) = refused s k why
-after_judgement s k new added = (record s { accepted = s.accepted ++ new ∷ [] }, [])
+after_judgement s k new Again = (s, [])
+after_judgement s k new (Barred why) = refused s k why
+after_judgement s k new Added = (record s { accepted = s.accepted ++ new ∷ [] }, [])
 
 -- a report of the task is offered by line k
 abbrev pub offered : State → ℕ → PlainTask → Accepted → Outcome
 offered s k task new =
     after_judgement s k new
-    (judged (known_in s.accepted new.task new.id) s.moment (is_collected s.collected new.task (batch_of new.time task.precision)) new.report new.time)
+    (judged (known_in s.accepted new.task new.id) s.moment (is_collected s.collected new.task (batch_of new.time task.precision)) (report_of new) new.time)
 
 -- the honest report of a measurement of the task is offered, if the measurement has shares
 abbrev pub measure_of : (Kind → Functions) → State → ℕ → List ℕ → ℕ → ℕ → List ℕ → PlainTask → Outcome
 measure_of f s k id time value seed task =
-    option_map_or (λ parts. offered s k task (accepted_as f task id time parts)) ((f task.kind).shard id value seed) (refused s k cause.Value)
+    option_map_or (λ shares. offered s k task (record { task = task.name; id = id; time = time; shares = shares }))
+    ((f task.kind).shard id value seed) (refused s k cause.Value)
 
 -- ---- collections
 
 -- the batch has been collected, or has the reports for it
-abbrev pub is_due : State → PlainTask → ℕ → Bool
-is_due s task start = is_collected s.collected task.name start || nat_le task.min (length (contents_in task start s.accepted))
+abbrev pub is_due : (Kind → Functions) → State → PlainTask → ℕ → Bool
+is_due f s task start = is_collected s.collected task.name start || nat_le task.min (length (contents_in f task start s.accepted))
 
 -- the printed line of a batch that is due: its counts, and the answer of the sum of its contents
-abbrev pub collection_of : Functions → State → PlainTask → ℕ → Printed
-collection_of g s task start =
+abbrev pub collection_of : (Kind → Functions) → State → PlainTask → ℕ → Printed
+collection_of f s task start =
     Collected task.name start (record {
-      reports = length (contents_in task start s.accepted);
-      rejected = rejected_in task start s.accepted;
-      answer = g.answer (total_numbers g.space (contents_in task start s.accepted));
+      reports = length (contents_in f task start s.accepted);
+      rejected = rejected_in f task start s.accepted;
+      answer = (f task.kind).answer (total_numbers (f task.kind).space (contents_in f task start s.accepted));
     })
 
 -- the batch is collected
@@ -68,8 +70,8 @@ with_batch s name start =
 abbrev pub collect_of : (Kind → Functions) → State → ℕ → ℕ → PlainTask → Outcome
 collect_of f s k start task =
     if not (nat_eq (start % task.precision) 0) then refused s k cause.Start
-    else (if is_due s task start then (with_batch s task.name start, collection_of (f task.kind) s task start ∷ [])
-    else (s, Small task.name start (length (contents_in task start s.accepted)) ∷ []))
+    else (if is_due f s task start then (with_batch s task.name start, collection_of f s task start ∷ [])
+    else (s, Small task.name start (length (contents_in f task start s.accepted)) ∷ []))
 
 -- ---- lines
 

@@ -2,14 +2,9 @@
 use Rattle.std.specs.Prelude.{ℕ, ◌+◌, List, Bool, false, nat_lt, if◌then◌else◌, is_some, Option}
 use Rattle.std.specs.Option.{option_map_or}
 use Rattle.std.specs.Str.{bytes_eq}
-use Rattle.dap_tasks.specs.declared.cause.Cause.{Cause}
 use Rattle.dap_tasks.specs.declared.cause.Cause.TheVariants.{Early, Conflict, Collected}
-
--- The report was accepted before, it is barred by a cause, or it is added.
-pub data Judged : Type 0 where
-  again : Judged
-  barred : Cause → Judged
-  added : Judged
+use Rattle.dap_tasks.specs.declared.cause.Judged.{Judged}
+use Rattle.dap_tasks.specs.declared.cause.Judged.TheVariants.{Again, Barred, Added}
 
 -- a moment is known, and the time is more than 300 above it
 abbrev pub is_early : Option ℕ → ℕ → Bool
@@ -23,8 +18,8 @@ is_known_as known bytes = option_map_or (λ accepted. bytes_eq accepted bytes) k
 -- with its identifier, if there is one, and `collected` says whether its batch was collected. The first that applies counts.
 abbrev pub judged : Option (List ℕ) → Option ℕ → Bool → List ℕ → ℕ → Judged
 judged known moment collected bytes time =
-    if is_known_as known bytes then again
-    else (if is_early moment time then barred Early
-    else (if is_some known then barred Conflict
-    else (if collected then barred Collected
-    else added)))
+    if is_known_as known bytes then Again
+    else (if is_early moment time then Barred Early
+    else (if is_some known then Barred Conflict
+    else (if collected then Barred Collected
+    else Added)))

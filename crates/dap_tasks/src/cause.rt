@@ -20,3 +20,14 @@ pub enum Cause {
     /// The start is no multiple of the task's precision.
     Start,
 }
+
+/// What a report comes to that is offered.
+#[derive(Clone, Copy, Debug, PartialEq, Eq)]
+pub enum Judged {
+    /// It was accepted before.
+    Again,
+    /// It is barred by a cause.
+    Barred(Cause),
+    /// It is added.
+    Added,
+}

@@ -8,7 +8,7 @@ mod task;
 mod tasks;
 mod trials;
 
-pub use cause::Cause;
+pub use cause::{Cause, Judged};
 pub use keys::SealKeys;
 pub use task::Task;
 pub use tasks::Tasks;
