@@ -1,4 +1,6 @@
 //! What a task measures.
+ghost use Rattle.std.specs.Prelude.{◌≡◌, IsTrue, ◌↔◌};
+ghost use Rattle.vdaf_api.specs.Kind.{ascends, is_kind, IsKind};
 
 use crate::bounds::Bounds;
 
@@ -13,9 +15,6 @@ pub enum Kind {
 }
 
 impl Kind {
-    ghost use Rattle.std.specs.Prelude.{◌≡◌, IsTrue, ◌↔◌};
-    ghost use Rattle.vdaf_api.specs.Kind.{is_kind, IsKind};
-
     /// Whether the kind is within its ranges.
     pub fn is_valid(&self) -> bool
         ensures value { result ≡ is_kind self.now }
@@ -25,8 +24,14 @@ impl Kind {
             Kind::Count => true,
             Kind::Sum { bits } => (1..=64).contains(bits),
             Kind::Histogram { bounds } => {
-                (1..=63).contains(&bounds.len()) && bounds.as_slice().is_sorted_by(|a, b| a < b)
+                (1..=63).contains(&bounds.len()) && ascend(bounds.as_slice())
             }
         }
     }
+}
+
+fn ascend(bounds: &[u64]) -> bool
+    ensures { result ≡ ascends bounds.now }
+{
+    bounds.is_sorted_by(|a, b| a < b)
 }
