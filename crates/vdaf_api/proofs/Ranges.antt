@@ -55,15 +55,17 @@ pub is_kind-decides : (kind : Kind) → IsTrue (is_kind kind) ↔ IsKind kind
 is_kind-decides Count = (λ t. tt, λ k. refl)
 is_kind-decides (Sum bits) = (
   λ t. (let both = and_parts (nat_le 1 bits) (nat_le bits 64) t in let first : nat_le 1 bits ≡ true = both.0 in let second : nat_le bits 64 ≡ true = both.1 in (grind (arith, nat_tests), grind (arith, nat_tests))),
-  λ k. (let first : 1 ≤ bits = k.0 in let second : bits ≤ 64 = k.1 in and_from (nat_le 1 bits) (nat_le bits 64) (grind (arith, nat_tests)) (grind (arith, nat_tests))))
+  λ k. (let first : 1 ≤ bits = k.0 in let second : bits ≤ 64 = k.1 in and_from (nat_le 1 bits) (nat_le bits 64) (grind (arith, nat_tests)) (grind (arith, nat_tests))),
+)
 is_kind-decides (Histogram bounds) = (
   λ t. (let all = and_parts (nat_le 1 (length bounds) && nat_le (length bounds) 63) (ascends bounds) t in
-        let sizes = and_parts (nat_le 1 (length bounds)) (nat_le (length bounds) 63) all.0 in
-        let first : nat_le 1 (length bounds) ≡ true = sizes.0 in
-        let second : nat_le (length bounds) 63 ≡ true = sizes.1 in
-        record { some = grind (arith, nat_tests); few = grind (arith, nat_tests); ascending = increasing-ascends bounds all.1 }),
+      let sizes = and_parts (nat_le 1 (length bounds)) (nat_le (length bounds) 63) all.0 in
+      let first : nat_le 1 (length bounds) ≡ true = sizes.0 in
+      let second : nat_le (length bounds) 63 ≡ true = sizes.1 in
+      record { some = grind (arith, nat_tests); few = grind (arith, nat_tests); ascending = increasing-ascends bounds all.1 }),
   λ k. (let first : 1 ≤ length bounds = k.some in
-        let second : length bounds ≤ 63 = k.few in
-        and_from (nat_le 1 (length bounds) && nat_le (length bounds) 63) (ascends bounds)
-        (and_from (nat_le 1 (length bounds)) (nat_le (length bounds) 63) (grind (arith, nat_tests)) (grind (arith, nat_tests)))
-        (ascends-increasing bounds k.ascending)))
+      let second : length bounds ≤ 63 = k.few in
+      and_from (nat_le 1 (length bounds) && nat_le (length bounds) 63) (ascends bounds)
+      (and_from (nat_le 1 (length bounds)) (nat_le (length bounds) 63) (grind (arith, nat_tests)) (grind (arith, nat_tests)))
+      (ascends-increasing bounds k.ascending)),
+)
