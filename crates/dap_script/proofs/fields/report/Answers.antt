@@ -1,4 +1,4 @@
-use Rattle.std.proofs.Common.{◌≡◌, ◌<◌, length, Ok, arith}
+use Rattle.std.proofs.Common.{◌≡◌, ◌<◌, length, arith}
 use Rattle.std.proofs.lemmas.Grind.{common_steps}
 use Rattle.dap_script.proofs.ReportLemmas.{none_from_empty, none_from_fault, some_from_bytes}
 use Rattle.dap_script.proofs.fields.report.Goals as goal
@@ -11,7 +11,7 @@ returns-then-is_empty c =
 pub returns-else-is_empty : goal.returns-else-is_empty
 returns-else-is_empty c =
     let some : 0 < length c.in-Ok.bytes.items = grind (arith, common_steps) in
-    rw c.new.ensures (some_from_bytes c.args.text.now c.in-Ok.bytes.items (rw c.as_bytes.ensures.value at c.in-Ok.ensures.ok) some)
+    rw c.new.ensures (some_from_bytes c.args.text.now c.in-Ok.bytes.items (rw c.as_bytes.ensures.value at c.in-Ok.ensures.ok) c.in-Ok.ensures.bytes some)
 
 pub returns-in-Err-DecodeError : goal.returns-in-Err-DecodeError
 returns-in-Err-DecodeError c =

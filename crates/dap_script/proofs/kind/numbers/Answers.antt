@@ -1,4 +1,4 @@
-use Rattle.std.proofs.Common.{◌≡◌, [], sym, ◌∙◌}
+use Rattle.std.proofs.Common.{[], sym, ◌∙◌}
 use Rattle.dap_script.proofs.ListLemmas.{numbers_go, numbers_stop}
 use Rattle.dap_script.proofs.kind.numbers.Goals as goal
 

@@ -1,4 +1,4 @@
-use Rattle.std.proofs.Common.{◌≡◌, sym, ◌∙◌}
+use Rattle.std.proofs.Common.{sym, ◌∙◌}
 use Rattle.dap_script.proofs.TaskLemmas.{task_goes, task_stops}
 use Rattle.dap_script.proofs.line.Line.task.Goals as goal
 
