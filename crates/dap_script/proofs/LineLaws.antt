@@ -77,7 +77,6 @@ measure_spelled fields line h =
     subst (Spell (codes "measure" ∷ fields)) (same_Some (Measure name id time value seed) line h5)
     (ap (λ (fs : List (List ℕ)). codes "measure" ∷ fs) (cc (all, n.0, i.0, t.0, v.0, s.0)), (n.1, i.1, t.2, v.3, s.1)))))))
 
-
 line_char_is_byte : (c : ℕ) → is_line_char c ≡ true → c < 256
 line_char_is_byte c h = grind (arith, nat_tests)
 

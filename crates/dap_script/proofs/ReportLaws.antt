@@ -17,7 +17,6 @@ use Rattle.dap_script.proofs.Visible.{IsVisible, is_visible}
 use Rattle.dap_script.specs.Fields.{is_byte, report_of, some_bytes}
 use Rattle.dap_script.specs.Spelling.{AreBytes}
 
-
 IsBytes-from_AreBytes : (bytes : List ℕ) → AreBytes bytes → IsBytes bytes
 IsBytes-from_AreBytes bytes h i = elim (cases_lt i (length bytes)) [
   | inl lt ↦ All-get_or (λ byte. byte < 256) bytes i 0 lt h
@@ -74,9 +73,13 @@ All-encode_symbols (a ∷ b ∷ c ∷ rest) h =
     let lc : c < 256 = All-head (λ byte. byte < 256) c rest more in
     let group = All-from_recursion IsVisible (encode_group symbols a b c) (
       visible_symbol (a / 4) (omega arith),
-      (visible_symbol (a % 4 * 16 + b / 16) (omega arith),
-      (visible_symbol (b % 16 * 4 + c / 64) (omega arith),
-      (visible_symbol (c % 64) (omega arith), tt))),
+      (
+        visible_symbol (a % 4 * 16 + b / 16) (omega arith),
+        (
+          visible_symbol (b % 16 * 4 + c / 64) (omega arith),
+          (visible_symbol (c % 64) (omega arith), tt),
+        ),
+      ),
     ) in
     All-append IsVisible (encode_group symbols a b c) (encode_symbols symbols rest) group (All-encode_symbols rest (All-tail (λ byte. byte < 256) c rest more))
 

@@ -8,7 +8,6 @@ use Rattle.dap_script.specs.Fields.{kind_of}
 use Rattle.dap_script.specs.Line.{task_of, task_with}
 use Rattle.dap_script.specs.Words.{texts, word}
 
-
 length-texts : (words : List (Bor (List ℕ))) → length (texts words) ≡ length words
 length-texts words = length-map words (λ (w : Bor (List ℕ)). w.now)
 

@@ -24,7 +24,6 @@ IsVisible c = is_visible c ≡ true
 visible_name_char : (c : ℕ) → is_name_char c ≡ true → IsVisible c
 visible_name_char c h = grind (arith, nat_tests)
 
-
 visible_digit : (c : ℕ) → is_ascii_digit c ≡ true → IsVisible c
 visible_digit c h = grind (arith, nat_tests)
 
