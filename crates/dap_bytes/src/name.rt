@@ -1,16 +1,18 @@
 //! Names of tasks.
 
-ghost use Rattle.std.specs.Prelude.{◌≡◌, ◌≤◌, ◌++◌, ◌-◌, length, replicate};
+ghost use Rattle.std.specs.Prelude.{◌≡◌, ◌≤◌, ◌++◌, ◌-◌, length, replicate, Some, refl};
 ghost use Rattle.std.specs.List.{list_all};
 ghost use Rattle.std.specs.Str.{bytes_eq};
 ghost use Rattle.std.specs.Cmp.{partial_equiv_from_equiv};
-ghost use Rattle.std.specs.Cmp.Lexicographic.{nat_list_eq_equiv};
+ghost use Rattle.std.specs.Cmp.Lexicographic.{nat_list_eq_equiv, nat_list_cmp_total, slice_cmp, texts_po, texts_ties};
+ghost use Rattle.std.specs.Ordering.{nat_cmp};
 ghost use Rattle.dap_bytes.specs.Name.{is_name_char};
 
+use std::cmp::Ordering;
 use std::marker::Model;
 
 /// The name of a task: 1 to 32 characters out of `a` to `z`, `0` to `9`, `_` and `-`.
-/// Contracts see it as the list of its bytes.
+/// Contracts see it as the list of its bytes. Names are in the order of their bytes, a beginning before the longer name.
 #[derive(Clone, Copy, Debug)]
 pub struct Name {
     cells: [u8; Name::MAX_LEN],
@@ -74,6 +76,30 @@ impl Eq for Name {
     ghost laws = { nat_list_eq_equiv };
 }
 
+impl PartialOrd for Name {
+    ghost partial_cmp = { λ a b. Some (slice_cmp nat_cmp a b) };
+
+    ghost laws = { texts_po };
+
+    fn partial_cmp(&self, other: &Name) -> Option<Ordering> {
+        Some(self.cmp(other))
+    }
+}
+
+impl Ord for Name {
+    ghost cmp = { slice_cmp nat_cmp };
+
+    ghost total = { nat_list_cmp_total };
+
+    ghost matches_partial_cmp = { λ a b. refl };
+
+    ghost matches_eq = { texts_ties };
+
+    fn cmp(&self, other: &Name) -> Ordering {
+        self.as_bytes().cmp(other.as_bytes())
+    }
+}
+
 fn are_name_chars(bytes: &[u8]) -> bool
     ensures { result ≡ list_all is_name_char bytes.now }
 {
@@ -93,6 +119,7 @@ fn padded(bytes: &[u8]) -> [u8; Name::MAX_LEN]
 #[cfg(test)]
 mod tests {
     use super::Name;
+    use std::cmp::Ordering;
 
     #[test]
     fn names_have_1_to_32_of_the_characters(rt: HostRuntime) {
@@ -105,6 +132,17 @@ mod tests {
         let too_long = [b'a'; 33];
         for text in [b"".as_slice(), b"V", b"a b", b"a.b", too_long.as_slice()] {
             assert!(rt; Name::new(text).is_none());
+        }
+    }
+
+    #[test]
+    fn names_are_in_the_order_of_their_bytes(rt: HostRuntime) {
+        let ascending = [b"-".as_slice(), b"9", b"_", b"a", b"a-", b"aa", b"b"];
+        for pair in ascending.windows(2) {
+            let lower = Name::new(pair[0]).expect(&rt, "a name");
+            let higher = Name::new(pair[1]).expect(&rt, "a name");
+            assert!(rt; lower < higher && higher > lower);
+            assert_eq!(rt; lower.cmp(&lower), Ordering::Equal);
         }
     }
 }

@@ -47,3 +47,25 @@ fn bytes_and_texts_give_back_what_they_were_made_of(rt: HostRuntime) -> Result<(
     assert_eq!(rt; same.into_string().as_str(), "né");
     Ok(())
 }
+
+#[test]
+fn a_cursor_gives_parts_and_numbers_in_order(rt: HostRuntime) {
+    let bytes = [
+        0x12, 0x34, 0x56, 0x78, 0x9a, 0xbc, 0xde, 0xf0, 0x12, 0x34, 0x56, 0x78, 0x9a, 0xbc, 0xde,
+        9, 8, 7,
+    ];
+    let mut cursor = Cursor::new(&bytes);
+    assert_eq!(rt; cursor.u8(), Some(0x12));
+    assert_eq!(rt; cursor.u16(), Some(0x3456));
+    assert_eq!(rt; cursor.u32(), Some(0x789a_bcde));
+    assert_eq!(rt; cursor.u64(), Some(0xf012_3456_789a_bcde));
+    assert_eq!(rt; cursor.place(), 15);
+    assert!(rt; cursor.u32().is_none() && cursor.u64().is_none() && cursor.take(4).is_none());
+    assert_eq!(rt; (cursor.place(), cursor.rest()), (15, [9, 8, 7].as_slice()));
+    assert_eq!(rt; cursor.take(2), Some([9, 8].as_slice()));
+    assert!(rt; cursor.u16().is_none());
+    assert_eq!(rt; cursor.take(1), Some([7].as_slice()));
+    assert_eq!(rt; (cursor.place(), cursor.rest().len()), (18, 0));
+    assert!(rt; cursor.u8().is_none());
+    assert_eq!(rt; cursor.take(0), Some(bytes.split_at(18).1));
+}

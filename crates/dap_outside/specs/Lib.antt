@@ -1,4 +1,5 @@
 pub mod Devices
 pub mod FateList
 pub mod Fates
+pub mod Filed
 pub mod Plan

@@ -28,3 +28,22 @@ fn a_write_is_kept_and_fails_where_listed(rt: HostRuntime) -> Result<(), Fail> {
     assert_eq!(rt; sink.bytes(), b"abe".as_slice());
     Ok(())
 }
+
+#[test]
+fn a_file_is_read_by_its_name_and_fails_where_listed(rt: HostRuntime) -> Result<(), Fail> {
+    let alloc = rt.alloc();
+    let mut files = Vec::new(alloc);
+    files.push((format!(in alloc; "a")?, [1, 2, 3].to_vec(alloc)?))?;
+    files.push((
+        format!(in alloc; "long")?,
+        vec![in alloc; 7u8; MAX_READ + 1]?,
+    ))?;
+    let mut files = MemFiles::new(files, [2].to_vec(alloc)?);
+    let read = files.read_file(alloc, "a").map_err(|_| "a file")?;
+    assert_eq!(rt; read.as_slice(), [1, 2, 3].as_slice());
+    assert!(rt; files.read_file(alloc, "a").is_err());
+    let long = files.read_file(alloc, "long").map_err(|_| "a file")?;
+    assert_eq!(rt; long.len(), MAX_READ);
+    assert_eq!(rt; files.read_file(alloc, "b").err(), Some(FileFault::Failed));
+    Ok(())
+}

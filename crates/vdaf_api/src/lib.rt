@@ -31,3 +31,6 @@ pub use space::Space;
 pub use step::Step;
 pub use toy::{Toy, ToyPrep};
 pub use vdaf::Vdaf;
+
+#[cfg(test)]
+mod tests;

@@ -1,0 +1,53 @@
+-- Lemmas: each kind's function keeps the laws.
+use Rattle.std.proofs.Common.{lit≤, ◌≡◌, ℕ, ◌+◌, ◌-◌, ◌*◌, ◌^◌, ◌<◌, ◌≤◌, List, length, arith}
+use Rattle.std.proofs.Math.Nat.{pow-le-pow_right, mul-le-mul}
+use Rattle.field64.specs.Laws.{residues, ring_laws, root_laws, half_law, is_residue_ring}
+use Rattle.field64.specs.Element.{ring_of}
+use Rattle.field128.specs.Laws as wide_laws
+use Rattle.field128.specs.Element as wide
+use Rattle.flp_circuits.specs.Kinds.{count_shape, sum_shape, histogram_shape}
+use Rattle.flp_circuits.specs.Kept.{count_keeps, sum_keeps, histogram_keeps, count_encodes, sum_encodes, histogram_encodes}
+use Rattle.flp_proof.specs.Proof.{wire_log}
+use Rattle.flp_proof.proofs.Orders.{wire_log_fits}
+use Rattle.vdaf_api.specs.declared.kind.Kind.{Kind}
+use Rattle.vdaf_api.specs.declared.kind.Kind.TheVariants.{Count, Sum, Histogram}
+use Rattle.vdaf_api.specs.Kind.{IsKind}
+use Rattle.vdaf_api.specs.Laws.{FunctionLaws}
+use Rattle.prio3_share.specs.Base.{BaseLaws}
+use Rattle.prio3_prep.proofs.Measures.{prio_laws}
+use Rattle.prio3_kinds.specs.Kinds.{base64, base128, answer_of, functions_of_kind}
+
+pub base64_laws : BaseLaws base64
+base64_laws = record { laws = ring_laws; roots = root_laws; halves = half_law; residues = residues; is_ring = is_residue_ring; some_byte = lit≤ tt; few_bytes = lit≤ tt; room = lit≤ tt }
+
+pub base128_laws : BaseLaws base128
+base128_laws = record {
+  laws = wide_laws.ring_laws;
+  roots = wide_laws.root_laws;
+  halves = wide_laws.half_law;
+  residues = wide_laws.residues;
+  is_ring = wide_laws.is_residue_ring;
+  some_byte = lit≤ tt;
+  few_bytes = lit≤ tt;
+  room = lit≤ tt;
+}
+
+-- few calls have a short proof
+short : (inputs calls arity width : ℕ) → inputs ≤ 64 → calls ≤ 64 → arity ≤ 2 → width ≤ 16 → inputs * width + (arity + (2 * (2 ^ wire_log calls - 1) + 1)) * width + 16 ≤ 131056
+short inputs calls arity width hi hc ha hw =
+    let few : wire_log calls ≤ 11 = (wire_log_fits calls (omega arith)).1 in
+    let power : 2 ^ wire_log calls ≤ 2 ^ 11 = pow-le-pow_right {n = 2} (lit≤ tt) few in
+    let long : arity + (2 * (2 ^ wire_log calls - 1) + 1) ≤ 4097 = omega arith in
+    let one : inputs * width ≤ 64 * 16 = mul-le-mul hi hw in
+    let two : (arity + (2 * (2 ^ wire_log calls - 1) + 1)) * width ≤ 4097 * 16 = mul-le-mul long hw in
+    omega arith
+
+pub kind_laws : (kind : Kind) → IsKind kind → FunctionLaws (functions_of_kind kind)
+kind_laws Count h = prio_laws base64_laws (count_shape ring_of) (count_keeps ring_laws) (count_encodes ring_laws) 0 (answer_of Count) (short 1 1 2 8 (lit≤ tt) (lit≤ tt) (lit≤ tt) (lit≤ tt))
+kind_laws (Sum bits) h =
+    prio_laws base128_laws (sum_shape wide.ring_of bits) (sum_keeps wide_laws.ring_laws bits h.0 (omega (arith, h.1))) (sum_encodes wide_laws.ring_laws bits) 1 (answer_of (Sum bits))
+    (short bits bits 1 16 h.1 h.1 (lit≤ tt) (lit≤ tt))
+kind_laws (Histogram bounds) h =
+    let few : length bounds + 1 ≤ 64 = omega (arith, h.few) in
+    prio_laws base128_laws (histogram_shape wide.ring_of bounds) (histogram_keeps wide_laws.ring_laws bounds (omega arith)) (histogram_encodes wide_laws.ring_laws bounds (omega arith)) 2 (answer_of (Histogram bounds))
+    (short (length bounds + 1) (length bounds + 1) 1 16 few few (lit≤ tt) (lit≤ tt))

@@ -1,0 +1,35 @@
+-- The measurement function of each kind.
+use Rattle.std.specs.Prelude.{ℕ, List, slice_index_or}
+use Rattle.field64.specs.declared.element.Field64.{Field64}
+use Rattle.field64.specs.Modulus.{modulus}
+use Rattle.field64.specs.Element.{ring_of, residue_of, number_of, root_of_log, half_element}
+use Rattle.field128.specs.declared.element.Field128.{Field128}
+use Rattle.field128.specs.Modulus as wide_modulus
+use Rattle.field128.specs.Element as wide
+use Rattle.flp_circuits.specs.Kinds.{count_shape, sum_shape, histogram_shape}
+use Rattle.vdaf_api.specs.declared.kind.Kind.{Kind}
+use Rattle.vdaf_api.specs.declared.kind.Kind.TheVariants.{Count, Sum, Histogram}
+use Rattle.vdaf_api.specs.declared.answer.Answer.{Answer}
+use Rattle.vdaf_api.specs.declared.answer.Answer.TheVariants as answer
+use Rattle.vdaf_api.specs.Functions.{Functions}
+use Rattle.prio3_share.specs.Base.{Base, base_of}
+use Rattle.prio3_share.specs.Functions.{functions_of}
+
+-- the field of counts, and that of sums and histograms
+abbrev pub base64 : Base Field64
+base64 = base_of ring_of half_element root_of_log number_of residue_of modulus 8
+
+abbrev pub base128 : Base Field128
+base128 = base_of wide.ring_of wide.half_element wide.root_of_log wide.number_of wide.residue_of wide_modulus.modulus 16
+
+-- the answer of a vector: its one number, or its numbers in order
+abbrev pub answer_of : Kind → List ℕ → Answer
+answer_of Count v = answer.Count (slice_index_or v 0 0)
+answer_of (Sum bits) v = answer.Sum (slice_index_or v 0 0)
+answer_of (Histogram bounds) v = answer.Histogram v
+
+-- the kind byte is 0, 1 or 2
+abbrev pub functions_of_kind : Kind → Functions
+functions_of_kind Count = functions_of base64 (count_shape ring_of) 0 (answer_of Count)
+functions_of_kind (Sum bits) = functions_of base128 (sum_shape wide.ring_of bits) 1 (answer_of (Sum bits))
+functions_of_kind (Histogram bounds) = functions_of base128 (histogram_shape wide.ring_of bounds) 2 (answer_of (Histogram bounds))

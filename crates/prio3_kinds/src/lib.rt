@@ -1,0 +1,8 @@
+//! Prio3 with two shares (draft-irtf-cfrg-vdaf-03) for each kind of measurement: counts over the small field, sums and
+//! histograms over the large one. The layer above uses [`Prio3`] through the trait `Vdaf`, and `functions_of_kind`,
+//! which is what the calls compute.
+#![tactic(auto)]
+
+mod prio3;
+
+pub use prio3::Prio3;

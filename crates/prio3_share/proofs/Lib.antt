@@ -1,0 +1,4 @@
+pub mod Elements
+pub mod Lengths
+pub mod ReadHalves
+pub mod Shared

@@ -1,0 +1,183 @@
+ghost use Rattle.vdaf_api.specs.Vectors.{SpaceLaws};
+
+use super::*;
+use std::alloc::Global;
+use std::process::Abort;
+use std::test::Fail;
+
+/// The out share of each half and the answer of a report of one measurement, by the trait's calls alone.
+fn prepared<V: Vdaf>(
+    rt: &impl Abort,
+    alloc: Global,
+    v: &V,
+    shares: &Shares,
+) -> Result<(Vec<u8>, Vec<u8>, Answer), Fail> {
+    let (key, id) = ([7; 16], [9; 16]);
+    let public = shares.public.as_slice();
+    let (leader, ours) = v
+        .init(
+            alloc,
+            Role::Leader,
+            &key,
+            &id,
+            public,
+            shares.leader.as_slice(),
+        )
+        .expect(rt, "the leader's prep share");
+    let (helper, theirs) = v
+        .init(
+            alloc,
+            Role::Helper,
+            &key,
+            &id,
+            public,
+            shares.helper.as_slice(),
+        )
+        .expect(rt, "the helper's prep share");
+    let message = v
+        .combine(alloc, &ours, &theirs)
+        .expect(rt, "the prep message");
+    let mut sum = v.zero(alloc)?;
+    let out = v
+        .finish(alloc, &leader, &message)
+        .expect(rt, "the leader's out share");
+    assert!(rt; v.is_out(&sum) && v.is_out(&out));
+    v.add(&mut sum, &out);
+    let other = v
+        .finish(alloc, &helper, &message)
+        .expect(rt, "the helper's out share");
+    assert!(rt; v.is_out(&sum) && v.is_out(&other));
+    let answer = v.answer(alloc, &sum, &other)?;
+    Ok((sum, other, answer))
+}
+
+#[test]
+fn toy_shares_add_to_the_measurement(rt: HostRuntime) -> Result<(), Fail> {
+    let alloc = rt.alloc();
+    let toy = Toy::of(alloc, &Kind::Count)?;
+    for (m, first, leader, helper) in [
+        (5, 2, [3, 0, 0, 0, 0, 0, 0, 0], [2, 0, 0, 0, 0, 0, 0, 0]),
+        (1, 2, [255; 8], [2, 0, 0, 0, 0, 0, 0, 0]),
+        (
+            4_294_967_295,
+            255,
+            [0, 255, 255, 255, 0, 0, 0, 0],
+            [255, 0, 0, 0, 0, 0, 0, 0],
+        ),
+    ] {
+        let mut seed = [0; 16];
+        seed[0] = first;
+        seed[8] = 1;
+        let shares = toy.shard(alloc, &[9; 16], m, &seed).expect(&rt, "shares");
+        let (leader_out, helper_out, answer) = prepared(&rt, alloc, &toy, &shares)?;
+        assert_eq!(rt; leader_out.as_slice(), leader.as_slice(), "at {m}");
+        assert_eq!(rt; helper_out.as_slice(), helper.as_slice(), "at {m}");
+        assert!(rt; answer == Answer::Sum(u128::from(m)));
+    }
+    assert!(rt;
+        matches!(
+            toy.shard(alloc, &[9; 16], 4_294_967_296, &[0; 16]),
+            Err(ShardFault::BadValue)
+        )
+    );
+    Ok(())
+}
+
+#[test]
+fn toy_takes_shares_of_8_bytes_alone(rt: HostRuntime) -> Result<(), Fail> {
+    let alloc = rt.alloc();
+    let toy = Toy::of(alloc, &Kind::Count)?;
+    let (key, id) = ([7; 16], [9; 16]);
+    for (public, input) in [
+        ([].as_slice(), [0; 7].as_slice()),
+        ([].as_slice(), [0; 9].as_slice()),
+        ([0].as_slice(), [0; 8].as_slice()),
+    ] {
+        let started = toy.init(alloc, Role::Leader, &key, &id, public, input);
+        assert!(rt; matches!(started, Err(PrepFault::Invalid)));
+    }
+    assert!(rt; matches!(toy.combine(alloc, &[], &[0]), Err(PrepFault::Invalid)));
+    Ok(())
+}
+
+#[test]
+fn kinds_keep_their_ranges(rt: HostRuntime) -> Result<(), Fail> {
+    let alloc = rt.alloc();
+    assert!(rt; Kind::Count.is_valid());
+    for (bits, want) in [(0, false), (1, true), (64, true), (65, false)] {
+        assert_eq!(rt; Kind::Sum { bits }.is_valid(), want, "{bits} bits");
+    }
+    for (bounds, want) in [
+        ([].as_slice(), false),
+        ([0].as_slice(), true),
+        ([3, 3].as_slice(), false),
+        ([0, 9, 8].as_slice(), false),
+        ([0, 9, u64::MAX].as_slice(), true),
+        ([0; 64].as_slice(), false),
+    ] {
+        let kind = Kind::Histogram {
+            bounds: Bounds::new(bounds.to_vec(alloc)?),
+        };
+        assert_eq!(rt; kind.is_valid(), want, "{} bounds", bounds.len());
+        assert!(rt; kind.clone()? == kind && kind != Kind::Count);
+    }
+    Ok(())
+}
+
+#[test]
+fn bounds_and_numbers_give_back_what_they_were_made_of(rt: HostRuntime) -> Result<(), Fail> {
+    let alloc = rt.alloc();
+    let bounds = Bounds::new([1, u64::MAX].to_vec(alloc)?);
+    assert_eq!(rt; (bounds.len(), bounds.is_empty()), (2, false));
+    assert_eq!(rt;
+        bounds.clone()?.into_vec().as_slice(),
+        [1, u64::MAX].as_slice()
+    );
+    let numbers = Numbers::new([1, u128::MAX].to_vec(alloc)?);
+    assert_eq!(rt; (numbers.len(), numbers.is_empty()), (2, false));
+    assert!(rt; numbers.clone()? == numbers && numbers != Numbers::new(Vec::new(alloc)));
+    assert_eq!(rt; numbers.into_vec().as_slice(), [1, u128::MAX].as_slice());
+    Ok(())
+}
+
+/// Two numbers modulo 2^64 - 2^32 + 1.
+fn pairs() -> Space
+    ensures { SpaceLaws result }
+{
+    Space {
+        modulus: 18_446_744_069_414_584_321,
+        width: 8,
+        size: 2,
+    }
+}
+
+#[test]
+fn out_shares_are_numbers_below_the_modulus(rt: HostRuntime) -> Result<(), Fail> {
+    let alloc = rt.alloc();
+    let space = pairs();
+    let mut total = space.zero(alloc)?;
+    let out = [1, 0, 0, 0, 0, 0, 0, 0, 0, 0, 0, 0, 255, 255, 255, 255];
+    for wanted in [
+        [1, 0, 0, 0, 0, 0, 0, 0, 0, 0, 0, 0, 255, 255, 255, 255],
+        [
+            2, 0, 0, 0, 0, 0, 0, 0, 255, 255, 255, 255, 254, 255, 255, 255,
+        ],
+    ] {
+        assert!(rt; space.is_out(&total) && space.is_out(&out));
+        let sum = space.sum(alloc, &total, &out)?;
+        space.add(&mut total, &out);
+        assert_eq!(rt; total.as_slice(), wanted.as_slice());
+        assert_eq!(rt; sum.as_slice(), wanted.as_slice());
+    }
+    assert!(rt; space.is_out(&total) && space.is_out(&out));
+    let numbers = space.numbers(alloc, &total)?;
+    assert_eq!(rt;
+        numbers.as_slice(),
+        [2, 18_446_744_069_414_584_319].as_slice()
+    );
+    let sums = space.sum_numbers(alloc, &total, &out)?;
+    assert_eq!(rt; sums.as_slice(), [3, 18_446_744_069_414_584_318].as_slice());
+    let modulus = [0, 0, 0, 0, 0, 0, 0, 0, 1, 0, 0, 0, 255, 255, 255, 255];
+    assert!(rt; !space.is_out(&modulus) && !space.is_out(&out[1..]) && !space.is_out(&[0; 17]));
+    Ok(())
+}
