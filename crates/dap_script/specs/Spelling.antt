@@ -51,11 +51,17 @@ AreBytes bytes = All (λ byte. byte < 256) bytes
 abbrev pub IsOctets : List ℕ → Type 0
 IsOctets bytes = (length bytes ≡ 16) × AreBytes bytes
 
+-- each bound of a histogram fits 64 bits
+abbrev pub HasWords : Kind → Type 0
+HasWords Count = Unit {0}
+HasWords (Sum bits) = Unit {0}
+HasWords (Histogram bounds) = All (λ bound. bound < 2 ^ 64) bounds
+
 -- each part of the line is in its range
 abbrev pub IsInRange : Line → Type 0
 IsInRange Blank = Unit {0}
 IsInRange (Task name kind min precision) =
-    IsName name × IsKind kind × (1 ≤ min) × (min ≤ 1000000) × (1 ≤ precision) × (precision ≤ 1000000000)
+    IsName name × IsKind kind × (1 ≤ min) × (min ≤ 1000000) × (1 ≤ precision) × (precision ≤ 1000000000) × HasWords kind
 IsInRange (Now t) = t ≤ 999999999999999999
 IsInRange (Measure name id time value seed) =
     IsName name × IsOctets id × (time ≤ 999999999999999999) × (value < 2 ^ 64) × IsOctets seed

@@ -53,11 +53,7 @@ fn numbers(alloc: Global, words: &[&str]) -> Result<Option<Vec<u64>>, AllocError
 fn ranged(kind: Kind) -> Option<Kind>
     ensures { result ≡ ranged kind }
 {
-    if kind.is_valid() {
-        Some(kind)
-    } else {
-        None
-    }
+    if kind.is_valid() { Some(kind) } else { None }
 }
 
 /// `B0,B1`

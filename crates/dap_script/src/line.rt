@@ -149,9 +149,7 @@ impl Line {
         let [word] = *fields else {
             return None;
         };
-        Some(Line::Restart {
-            node: node(word)?,
-        })
+        Some(Line::Restart { node: node(word)? })
     }
 
     fn from_words(alloc: Global, words: &[&str]) -> Result<Option<Line>, AllocError>
