@@ -1,6 +1,3 @@
-pub mod Changes
-pub mod Counts
-pub mod Kinds
 pub mod Printed
 pub mod Run
 pub mod State

@@ -1,18 +1,25 @@
 -- The plain state: what is known at a moment of the run.
-use Rattle.std.specs.Prelude.{ℕ, ◌+◌, ◌-◌, ◌%◌, List, [], ◌++◌, ◌∷◌, length, Bool, ◌&&◌, nat_eq, if◌then◌else◌, Option, None}
-use Rattle.std.specs.List.{list_any}
-use Rattle.std.specs.Option.{option_to_list}
+use Rattle.std.specs.Prelude.{ℕ, ◌+◌, ◌-◌, ◌%◌, List, [], ◌++◌, ◌∷◌, length, Bool, ◌&&◌, nat_eq, is_none, if◌then◌else◌, Option, None}
+use Rattle.std.specs.List.{list_any, find}
+use Rattle.std.specs.Option.{option_map, option_to_list}
 use Rattle.std.specs.Str.{bytes_eq}
-use Rattle.dap_model.specs.declared.task.Task.{Task}
+use Rattle.vdaf_api.specs.Functions.{Functions, Parts}
+use Rattle.vdaf_api.specs.Verdict.{numbers_of, opened, verdict}
+use Rattle.vdaf_api.specs.declared.kind.Kind.{Kind}
+use Rattle.dap_tasks.specs.Task.{PlainTask}
 
--- An accepted report: its task's name, its identifier and time, its bytes, and its content, a vector of
--- field elements, or none where its verdict is failed.
+-- an accepted report: its task's name, its identifier, its time and its shares
 pub record Accepted : Type 0 where
   pub task : List ℕ
   pub id : List ℕ
   pub time : ℕ
-  pub report : List ℕ
-  pub content : Option (List ℕ)
+  pub shares : Parts
+
+-- The bytes of a report as long as no format spells it: its time, and its public, leader and helper shares, each of the
+-- first two after its length. The time and the lengths stand as they are.
+abbrev pub report_of : Accepted → List ℕ
+report_of a =
+    a.time ∷ length a.shares.public ∷ (a.shares.public ++ length a.shares.leader ∷ (a.shares.leader ++ a.shares.helper))
 
 -- a collected batch: a task's name and the batch's start
 pub record Batch : Type 0 where
@@ -21,18 +28,14 @@ pub record Batch : Type 0 where
 
 -- The known tasks, the moment where one is known, the accepted reports in order, and the collected batches.
 pub record State : Type 0 where
-  pub tasks : List Task
+  pub tasks : List PlainTask
   pub moment : Option ℕ
   pub accepted : List Accepted
   pub collected : List Batch
 
 -- the tasks are known, and nothing else is
-abbrev pub opening : List Task → State
+abbrev pub opening : List PlainTask → State
 opening tasks = record { tasks = tasks; moment = None; accepted = []; collected = [] }
-
--- the task has the name
-abbrev pub has_name : List ℕ → Task → Bool
-has_name name task = bytes_eq task.name name
 
 -- the start of the batch in which a time falls: the time rounded down to a multiple of the precision
 abbrev pub batch_of : ℕ → ℕ → ℕ
@@ -46,26 +49,30 @@ is_batch name start b = bytes_eq b.task name && nat_eq b.start start
 abbrev pub is_collected : List Batch → List ℕ → ℕ → Bool
 is_collected collected name start = list_any (is_batch name start) collected
 
--- the same task and identifier
-abbrev pub has_key : Accepted → Accepted → Bool
-has_key new a = bytes_eq a.task new.task && bytes_eq a.id new.id
+-- of this task and with this identifier
+abbrev pub has_key : List ℕ → List ℕ → Accepted → Bool
+has_key name id a = bytes_eq a.task name && bytes_eq a.id id
 
--- the same bytes too
-abbrev pub is_again : Accepted → Accepted → Bool
-is_again new a = has_key new a && bytes_eq a.report new.report
+-- the bytes of the accepted report of this task with this identifier, if there is one
+abbrev pub known_in : List Accepted → List ℕ → List ℕ → Option (List ℕ)
+known_in accepted name id = option_map report_of (find (has_key name id) accepted)
 
 -- of this task and in the batch that starts there
-abbrev pub in_batch : Task → ℕ → Accepted → Bool
+abbrev pub in_batch : PlainTask → ℕ → Accepted → Bool
 in_batch task start a = bytes_eq a.task task.name && nat_eq (batch_of a.time task.precision) start
 
+-- the content of a report of the task, which is a vector of numbers, or none where its verdict is failed
+abbrev pub content_of : (Kind → Functions) → PlainTask → Accepted → Option (List ℕ)
+content_of f task a = numbers_of (f task.kind) (verdict (f task.kind) (opened task.verify a.id a.shares))
+
 -- the contents of a batch's reports, in order
-abbrev pub contents_in : Task → ℕ → List Accepted → List (List ℕ)
-contents_in task start [] = []
-contents_in task start (a ∷ more) =
-    if in_batch task start a then option_to_list a.content ++ contents_in task start more else contents_in task start more
+abbrev pub contents_in : (Kind → Functions) → PlainTask → ℕ → List Accepted → List (List ℕ)
+contents_in f task start [] = []
+contents_in f task start (a ∷ more) =
+    (if in_batch task start a then option_to_list (content_of f task a) else []) ++ contents_in f task start more
 
 -- how many of a batch's reports have no content
-abbrev pub rejected_in : Task → ℕ → List Accepted → ℕ
-rejected_in task start [] = 0
-rejected_in task start (a ∷ more) =
-    if in_batch task start a && nat_eq (length (option_to_list a.content)) 0 then rejected_in task start more + 1 else rejected_in task start more
+abbrev pub rejected_in : (Kind → Functions) → PlainTask → ℕ → List Accepted → ℕ
+rejected_in f task start [] = 0
+rejected_in f task start (a ∷ more) =
+    (if in_batch task start a && is_none (content_of f task a) then 1 else 0) + rejected_in f task start more

@@ -1,14 +1,16 @@
 -- A number has one spelling.
-use Rattle.std.proofs.Common.{◌≡◌, ℕ, ◌^◌, ◌<◌, ◌≤◌, List, [], ◌∷◌, true, ◌&&◌, nat_le, nat_lt, length, get_or, Some, refl, sym, ap, ◌∙◌, suc, zero, lit<, arith}
+use Rattle.std.proofs.Common.{◌≡◌, ℕ, ◌^◌, ◌<◌, ◌≤◌, List, [], ◌∷◌, map, true, ◌&&◌, nat_le, nat_lt, length, get_or, Some, refl, sym, ap, subst, ◌∙◌, suc, zero, lit<, arith}
 use Rattle.std.proofs.lemmas.Bool.Decides.{nat_tests}
 use Rattle.std.proofs.lemmas.Bool.{and_parts, leb-true, le-leb, lt-ltb, ltb-true}
-use Rattle.std.proofs.lemmas.Option.{cond_some, option_and_then_some}
+use Rattle.std.proofs.lemmas.List.Elements.{All-cons, All-head, All-nil, All-tail}
+use Rattle.std.proofs.lemmas.Option.{cond_some, option_and_then_some, same_Some}
+use Rattle.std.specs.List.{All}
 use Rattle.std.proofs.lemmas.Fmt.{decimal-digits_value, digits_decimal, digits_value-decimal, decimal_nonempty, first_decimal, decimal_digit}
 use Rattle.std.specs.Fmt.{decimal}
 use Rattle.std.specs.Str.{all_ascii_digits}
 use Rattle.std.specs.Str.Parse.{digits_value}
 use Rattle.dap_script.proofs.NumberLemmas.{own}
-use Rattle.dap_script.specs.Fields.{is_numeral, is_plain_text, number_of, bounded_of}
+use Rattle.dap_script.specs.Fields.{is_numeral, is_plain_text, number_of, numbers_of, bounded_of}
 
 lone_zero : (bs : List ℕ) → is_plain_text bs ≡ true → get_or bs 0 0 ≡ 48 → length bs ≡ 1
 lone_zero [] h e = absurd (omega arith)
@@ -50,3 +52,21 @@ bounded_spelled least greatest text n h = option_and_then_some _ (number_of text
 
 pub bounded_of-decimal : (least greatest n : ℕ) → least ≤ n → n ≤ greatest → n < 2 ^ 64 → bounded_of least greatest (decimal n) ≡ Some n
 bounded_of-decimal least greatest n l g h = rw (number_of-decimal n h, le-leb least n l, le-leb n greatest g) refl
+
+-- several numbers
+pub numbers_spelled : (words : List (List ℕ)) (numbers : List ℕ) → numbers_of words ≡ Some numbers → (words ≡ map decimal numbers) × All (λ n. n < 2 ^ 64) numbers
+numbers_spelled [] numbers h =
+    let none : [] ≡ numbers = same_Some [] numbers h in
+    rw (← none) (refl, All-nil (λ n. n < 2 ^ 64))
+numbers_spelled (word ∷ words) numbers h =
+    option_and_then_some _ (number_of word) numbers h (λ n e h1.
+    option_and_then_some _ (numbers_of words) numbers h1 (λ ns es h2.
+    let first = number_spelled word n e in
+    let rest = numbers_spelled words ns es in
+    subst (λ all. (word ∷ words ≡ map decimal all) × All (λ m. m < 2 ^ 64) all) (same_Some (n ∷ ns) numbers h2)
+    (cc (first.0, rest.0), All-cons (λ m. m < 2 ^ 64) n ns first.1 rest.1)))
+
+pub numbers_of-decimal : (numbers : List ℕ) → All (λ n. n < 2 ^ 64) numbers → numbers_of (map decimal numbers) ≡ Some numbers
+numbers_of-decimal [] h = refl
+numbers_of-decimal (n ∷ ns) h =
+    rw (number_of-decimal n (All-head (λ m. m < 2 ^ 64) n ns h), numbers_of-decimal ns (All-tail (λ m. m < 2 ^ 64) n ns h)) refl

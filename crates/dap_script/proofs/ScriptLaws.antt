@@ -1,38 +1,19 @@
 -- A script's lines are read as they are spelled, and a refusal names the first that is not.
-use Rattle.std.proofs.Common.{◌≡◌, ℕ, ◌+◌, ◌-◌, ◌<◌, List, [], ◌∷◌, ◌++◌, map, take, drop, true, length, if◌then◌else◌, Some, None, Result, Ok, Err, refl, sym, ap, subst, ◌∙◌, suc, inl, inr, arith}
+use Rattle.std.proofs.Common.{◌≡◌, ℕ, ◌+◌, ◌-◌, ◌<◌, List, [], ◌∷◌, ◌++◌, take, drop, true, length, if◌then◌else◌, Some, None, Result, Ok, Err, refl, sym, ap, subst, ◌∙◌, suc, zero, inl, inr, arith}
 use Rattle.std.proofs.lemmas.Bool.{cases_lt}
-use Rattle.std.proofs.lemmas.List.Elements.{All-cons, All-head, All-nil, All-tail, All-take}
-use Rattle.std.proofs.lemmas.List.{append-nil, append_assoc, length-append, take-append-drop, take-map, take-take}
+use Rattle.std.proofs.lemmas.List.Elements.{All-cons, All-nil, All-take}
+use Rattle.std.proofs.lemmas.List.{append-nil, append_assoc, length-append, take-append-drop, take-take}
 use Rattle.std.proofs.lemmas.Option.{same_Some}
-use Rattle.std.specs.List.{All}
-use Rattle.dap_script.proofs.LineLaws.{line_spelled, line_of-spelling}
+use Rattle.std.specs.List.{All, IsDistinct}
+use Rattle.std.specs.Str.{bytes_eq}
+use Rattle.dap_script.proofs.LineLaws.{line_of-spelled, line_spelled}
+use Rattle.dap_script.proofs.NameLaws.{distinct_before, distinct_next, follows_others}
 use Rattle.dap_script.proofs.OptionLemmas.{guarded, map_or_cases}
-use Rattle.dap_script.proofs.TextLaws.{lines_spelled, lines_of-spelling}
+use Rattle.dap_script.proofs.TextLaws.{lines_of-spelled, lines_spelled}
 use Rattle.dap_script.specs.Line.{line_of}
-use Rattle.dap_script.specs.Script.{follows, line_after, lines_of, read_after, script_of}
-use Rattle.dap_script.specs.Spelling.{IsFirstFault, IsInRange, IsReadable, SpellsLine, SpellsScript, spelling}
+use Rattle.dap_script.specs.Script.{follows, line_after, lines_of, read_after, script_of, task_names}
+use Rattle.dap_script.specs.Spelling.{IsFirstFault, IsInRange, IsReadable, IsScript, SpellEach, SpellsLine, SpellsScript}
 use Rattle.dap_script.specs.declared.line.Line.{Line}
-
--- each of the lines may follow those before it and all of `before`
-abbrev IsInOrderAfter : List Line → List Line → Type 0
-IsInOrderAfter before lines = (front after : List Line) (line : Line) → lines ≡ front ++ line ∷ after → follows (before ++ front) line ≡ true
-
-in_order-cons : (before : List Line) (line : Line) (lines : List Line) → follows before line ≡ true → IsInOrderAfter (before ++ line ∷ []) lines
-    → (front after : List Line) (last : Line) → line ∷ lines ≡ front ++ last ∷ after → follows (before ++ front) last ≡ true
-in_order-cons before line lines f o [] after last e =
-    let same : line ≡ last = cc e in
-    rw (append-nil before, ← same) f
-in_order-cons before line lines f o (first ∷ front) after last e =
-    let same : line ≡ first = cc e in
-    let rest : lines ≡ front ++ last ∷ after = cc e in
-    rw (← same) (rw append_assoc at (o front after last rest))
-
-in_order-head : (before : List Line) (line : Line) (lines : List Line) → IsInOrderAfter before (line ∷ lines) → follows before line ≡ true
-in_order-head before line lines o = rw (append-nil before) at (o [] lines line refl)
-
-in_order-tail : (before : List Line) (line : Line) (lines : List Line) → IsInOrderAfter before (line ∷ lines) → IsInOrderAfter (before ++ line ∷ []) lines
-in_order-tail before line lines o front after last e =
-    rw append_assoc (o (line ∷ front) after last (ap (λ (ls : List Line). line ∷ ls) e))
 
 -- ---- texts that are read
 
@@ -40,9 +21,9 @@ in_order-tail before line lines o front after last e =
 record Continue (before : List Line) (texts : List (List ℕ)) (all : List Line) : Type 0 where
   lines : List Line
   joined : all ≡ before ++ lines
-  spelled : texts ≡ map spelling lines
+  spelled : SpellEach texts lines
   in_range : All IsInRange lines
-  in_order : IsInOrderAfter before lines
+  distinct : IsDistinct bytes_eq (task_names all)
 
 line_after-parts : (before : List Line) (text : List ℕ) (line : Line) → line_after before text ≡ Some line → SpellsLine text line × (follows before line ≡ true)
 line_after-parts before text line h =
@@ -51,52 +32,66 @@ line_after-parts before text line h =
     let same : l ≡ line = same_Some l line g.1 in
     (line_spelled text line (e ∙ ap Some same), rw (← same) g.0))
 
-rest_spelled : (before : List Line) (texts : List (List ℕ)) (all : List Line) → read_after before texts ≡ Ok all → Continue before texts all
-rest_spelled before [] all h = record {
-  lines = [];
-  joined = (let same : before ≡ all = cc h in sym same ∙ sym (append-nil before));
-  spelled = refl;
-  in_range = All-nil IsInRange;
-  in_order = λ front after line e. absurd (omega (arith, ap length e, length-append front (line ∷ after)));
-}
-rest_spelled before (text ∷ more) all h =
+in_range : (text : List ℕ) (line : Line) → SpellsLine text line → IsInRange line
+in_range text line (inl s) = s.1
+in_range text line (inr s) = subst IsInRange (sym s.0) tt
+
+rest_spelled : (before : List Line) (texts : List (List ℕ)) (all : List Line) → IsDistinct bytes_eq (task_names before) → read_after before texts ≡ Ok all
+    → Continue before texts all
+rest_spelled before [] all d h =
+    let same : before ≡ all = cc h in
+    record {
+      lines = [];
+      joined = sym same ∙ sym (append-nil before);
+      spelled = tt;
+      in_range = All-nil IsInRange;
+      distinct = subst (λ ls. IsDistinct bytes_eq (task_names ls)) same d;
+    }
+rest_spelled before (text ∷ more) all d h =
     map_or_cases (λ line. read_after (before ++ line ∷ []) more) (line_after before text) (Err (length before + 1)) (Ok all) h (λ e k. cc k) (λ line e k.
     let p = line_after-parts before text line e in
-    let rest = rest_spelled (before ++ line ∷ []) more all k in
+    let rest = rest_spelled (before ++ line ∷ []) more all (distinct_next before line d p.1) k in
     record {
       lines = line ∷ rest.lines;
       joined = rest.joined ∙ append_assoc before (line ∷ []) rest.lines;
-      spelled = cc (p.0.0, rest.spelled);
-      in_range = All-cons IsInRange line rest.lines p.0.1 rest.in_range;
-      in_order = in_order-cons before line rest.lines p.1 rest.in_order;
+      spelled = (p.0, rest.spelled);
+      in_range = All-cons IsInRange line rest.lines (in_range text line p.0) rest.in_range;
+      distinct = rest.distinct;
     })
 
-read_after-spelling : (before lines : List Line) → All IsInRange lines → IsInOrderAfter before lines → read_after before (map spelling lines) ≡ Ok (before ++ lines)
-read_after-spelling before [] h o = ap Ok (sym (append-nil before))
-read_after-spelling before (line ∷ lines) h o =
-    let text = line_of-spelling line (All-head IsInRange line lines h) in
-    let may = in_order-head before line lines o in
-    rw (text, may) (read_after-spelling (before ++ line ∷ []) lines (All-tail IsInRange line lines h) (in_order-tail before line lines o)
-    ∙ ap Ok (append_assoc before (line ∷ []) lines))
+read_after-spelled : (before : List Line) (texts : List (List ℕ)) (lines : List Line) → SpellEach texts lines → IsDistinct bytes_eq (task_names (before ++ lines))
+    → read_after before texts ≡ Ok (before ++ lines)
+read_after-spelled before [] [] s d = ap Ok (sym (append-nil before))
+read_after-spelled before [] (line ∷ lines) s d = absurd s
+read_after-spelled before (text ∷ texts) [] s d = absurd s
+read_after-spelled before (text ∷ texts) (line ∷ lines) s d =
+    let is : line_of text ≡ Some line = line_of-spelled text line s.0 in
+    let may : follows before line ≡ true = follows_others before line lines d in
+    let whole : (before ++ line ∷ []) ++ lines ≡ before ++ line ∷ lines = append_assoc before (line ∷ []) lines in
+    rw (is, may) (read_after-spelled (before ++ line ∷ []) texts lines s.1 (subst (λ ls. IsDistinct bytes_eq (task_names ls)) (sym whole) d) ∙ ap Ok whole)
+
+readable_is : (texts : List (List ℕ)) (lines : List Line) → read_after [] texts ≡ Ok lines → SpellEach texts lines × IsScript lines
+unfolding IsDistinct
+readable_is texts lines h =
+    let r = rest_spelled [] texts lines tt h in
+    let same : r.lines ≡ lines = sym r.joined in
+    (subst (SpellEach texts) same r.spelled, record { in_range = subst (All IsInRange) same r.in_range; distinct = r.distinct })
 
 IsReadable-from_read : (texts : List (List ℕ)) (lines : List Line) → read_after [] texts ≡ Ok lines → IsReadable texts
 IsReadable-from_read texts lines h =
-    let r = rest_spelled [] texts lines h in
-    record { lines = r.lines; spelled = r.spelled; is_script = record { in_range = r.in_range; in_order = r.in_order } }
+    let r = readable_is texts lines h in
+    record { lines = lines; spelled = r.0; is_script = r.1 }
 
 read_after-readable : (texts : List (List ℕ)) (r : IsReadable texts) → read_after [] texts ≡ Ok r.lines
-read_after-readable texts r =
-    ap (read_after []) r.spelled ∙ read_after-spelling [] r.lines r.is_script.in_range r.is_script.in_order
+read_after-readable texts r = read_after-spelled [] texts r.lines r.spelled r.is_script.distinct
 
 pub script_spelled : (bytes : List ℕ) (lines : List Line) → script_of bytes ≡ Ok lines → SpellsScript bytes lines
 script_spelled bytes lines h =
-    let r = rest_spelled [] (lines_of bytes) lines h in
-    subst (SpellsScript bytes) (sym r.joined)
-    (record { spelled = lines_spelled bytes r.lines r.spelled; is_script = record { in_range = r.in_range; in_order = r.in_order } })
+    let r = readable_is (lines_of bytes) lines h in
+    record { spelled = lines_spelled bytes lines r.0; is_script = r.1 }
 
 pub script_of-spelling : (bytes : List ℕ) (lines : List Line) → SpellsScript bytes lines → script_of bytes ≡ Ok lines
-script_of-spelling bytes lines s =
-    read_after-readable (lines_of bytes) (record { lines = lines; spelled = lines_of-spelling bytes lines s.is_script.in_range s.spelled; is_script = s.is_script })
+script_of-spelling bytes lines s = read_after-spelled [] (lines_of bytes) lines (lines_of-spelled lines bytes s.spelled) s.is_script.distinct
 
 -- ---- the first text that is refused
 
@@ -125,15 +120,22 @@ stops before (text ∷ more) n h =
       refused = rw e rest.refused;
     })
 
+SpellEach-take : (n : ℕ) (texts : List (List ℕ)) (lines : List Line) → SpellEach texts lines → SpellEach (take n texts) (take n lines)
+SpellEach-take zero texts lines s = tt
+SpellEach-take (suc n) [] [] s = tt
+SpellEach-take (suc n) [] (line ∷ lines) s = absurd s
+SpellEach-take (suc n) (text ∷ texts) [] s = absurd s
+SpellEach-take (suc n) (text ∷ texts) (line ∷ lines) s = (s.0, SpellEach-take n texts lines s.1)
+
 -- the lines of a script are one up to each of them
 IsReadable-take : (n : ℕ) (texts : List (List ℕ)) → IsReadable texts → IsReadable (take n texts)
 IsReadable-take n texts r = record {
   lines = take n r.lines;
-  spelled = ap (take n) r.spelled ∙ take-map spelling n r.lines;
+  spelled = SpellEach-take n texts r.lines r.spelled;
   is_script = record {
     in_range = All-take IsInRange n r.lines r.is_script.in_range;
-    in_order = λ before after line e. r.is_script.in_order before (after ++ drop n r.lines) line
-        (sym (take-append-drop n r.lines) ∙ ap (λ (front : List Line). front ++ drop n r.lines) e ∙ append_assoc before (line ∷ after) (drop n r.lines));
+    distinct = distinct_before (take n r.lines) (drop n r.lines)
+        (subst (λ ls. IsDistinct bytes_eq (task_names ls)) (sym (take-append-drop n r.lines)) r.is_script.distinct);
   };
 }
 
@@ -143,8 +145,8 @@ fault_is_first bytes n h =
     let last : s.at ≡ n - 1 = omega (arith, s.number) in
     let next : suc s.at ≡ n = omega (arith, s.number) in
     record {
-      some = omega arith;
-      within = omega (arith, s.within);
+      some = omega (arith, s.number);
+      within = omega (arith, s.within, s.number);
       before = rw (← last) (IsReadable-from_read (take s.at (lines_of bytes)) s.lines s.read);
       at = λ r. cc (read_after-readable (take n (lines_of bytes)) r, rw next at s.refused);
     }

@@ -1,89 +1,170 @@
--- The texts of a script's bytes: lines ended by a line feed, which the last one may lack.
-use Rattle.std.proofs.Common.{◌≡◌, ℕ, ◌+◌, ◌-◌, ◌<◌, List, [], ◌∷◌, ◌++◌, map, take, true, false, ◌&&◌, nat_eq, nat_lt, length, refl, sym, ap, ◌∙◌, inl, inr, arith}
+-- The texts of a script's bytes: each ended by a line feed, which the last one may lack, and before which a carriage return may stand.
+use Rattle.std.proofs.Common.{◌≡◌, ◌⊎◌, ℕ, ◌+◌, ◌-◌, ◌<◌, List, [], ◌∷◌, ◌++◌, take, Bool, true, false, nat_eq, length, if◌then◌else◌, get_or, refl, sym, ap, subst, ◌∙◌, inl, inr, arith}
 use Rattle.std.proofs.lemmas.Bool.Decides.{nat_tests}
-use Rattle.std.proofs.lemmas.Bool.{and_parts, cases_Bool, eqb-true, ltb-true}
-use Rattle.std.proofs.lemmas.List.Elements.{All-map, All-nil, All-push, All-weaker}
-use Rattle.std.proofs.lemmas.List.Splits.{join_with_byte-slice_split}
-use Rattle.std.proofs.lemmas.List.{append-nil, append_assoc, append_cancel_right, get_or_push, length-append, take-append-le, take_all, take_more}
+use Rattle.std.proofs.lemmas.Bool.{cases_Bool, eq-eqb, eqb-true, ne_eqb}
+use Rattle.std.proofs.lemmas.List.Elements.{All-append, All-cons, All-head, All-nil, All-weaker}
+use Rattle.std.proofs.lemmas.List.Splits.{join_with_byte-slice_split, length-slice_split, slice_split_at, slice_split_none}
+use Rattle.std.proofs.lemmas.List.{append_assoc, get_or_push, length-append, take_all, take_at, take_more}
+use Rattle.std.specs.Bool.{◌==◌}
+use Rattle.std.specs.Char.{is_newline}
 use Rattle.std.specs.List.{All, join_with_byte, slice_split}
-use Rattle.dap_script.proofs.LineLaws.{All-spelling}
-use Rattle.dap_script.proofs.SplitLaws.{Lacks, slice_split-join_with_byte, slice_split-push}
-use Rattle.dap_script.specs.Script.{ends_empty, is_line_feed, lines_of, without_empty_end}
-use Rattle.dap_script.specs.Spelling.{IsInRange, SpellsLines, ended_text, spelling}
-use Rattle.dap_script.specs.Words.{word}
-use Rattle.dap_script.specs.declared.line.Line.TheVariants.{Collect, Measure, Task}
+use Rattle.std.specs.Str.Lines.{lines_of_parts, strip_carriage_return}
+use Rattle.dap_script.proofs.LineLaws.{All-spelling, line_chars}
+use Rattle.dap_script.proofs.Visible.{IsVisible}
+use Rattle.dap_script.proofs.SplitLaws.{Lacks}
+use Rattle.dap_script.proofs.WordLaws.{All-left, All-right}
+use Rattle.dap_script.specs.Script.{lines_of}
+use Rattle.dap_script.specs.Spelling.{Begins, IsComment, IsInRange, IsLineEnd, SpellEach, SpellsLine, SpellsLines, spelling}
+use Rattle.dap_script.specs.Words.{is_line_char}
 use Rattle.dap_script.specs.declared.line.Line.{Line}
 
-join_with_byte-ended : (lines : List Line) → join_with_byte 10 (map spelling lines ++ [] ∷ []) ≡ ended_text lines
-join_with_byte-ended [] = refl
-join_with_byte-ended (line ∷ []) = sym (append-nil (spelling line ++ 10 ∷ []))
-join_with_byte-ended (line ∷ next ∷ lines) =
-    ap (λ (rest : List ℕ). spelling line ++ 10 ∷ rest) (join_with_byte-ended (next ∷ lines)) ∙ sym (append_assoc (spelling line) (10 ∷ []) (ended_text (next ∷ lines)))
+-- ---- the carriage return
 
-lacks_line_feed : (line : Line) → IsInRange line → Lacks 10 (spelling line)
-lacks_line_feed line h = All-spelling (λ c. nat_eq c 10 ≡ false) refl (λ c v. grind (arith, nat_tests)) line h
+ends_by_return : (text : List ℕ) → (get_or text (length text - 1) 0 == 13) ≡ true → text ≡ take (length text - 1) text ++ 13 ∷ []
+ends_by_return [] e = cc e
+ends_by_return (c ∷ cs) e =
+    let text : List ℕ = c ∷ cs in
+    let next : length text - 1 + 1 ≡ length text = omega arith in
+    sym (take_all (length text - 1 + 1) text (omega arith)) ∙ take_more text (length text - 1) 0 (omega arith)
+    ∙ ap (λ (last : ℕ). take (length text - 1) text ++ last ∷ []) (eqb-true _ 13 e)
 
-slice_split-ended_text : (lines : List Line) → All IsInRange lines → slice_split is_line_feed (ended_text lines) ≡ map spelling lines ++ [] ∷ []
-slice_split-ended_text lines h =
-    ap (slice_split is_line_feed) (sym (join_with_byte-ended lines))
-    ∙ slice_split-join_with_byte 10 (map spelling lines ++ [] ∷ []) (omega (arith, length-append (map spelling lines) ([] ∷ [])))
-    (All-push (Lacks 10) (map spelling lines) []
-    (All-map (Lacks 10) spelling lines (All-weaker IsInRange (λ line. Lacks 10 (spelling line)) lacks_line_feed lines h)) (All-nil (λ c. nat_eq c 10 ≡ false)))
+-- what the stripping leaves is the text, or the text has a carriage return after it
+pub strip_cases : (text : List ℕ) → (text ≡ strip_carriage_return text) ⊎ (text ≡ strip_carriage_return text ++ 13 ∷ [])
+strip_cases text = elim (cases_Bool (get_or text (length text - 1) 0 == 13)) [
+  | inl ends ↦ inr (rw ends (ends_by_return text ends))
+  | inr whole ↦ inl (rw whole refl)
+]
 
--- ---- the empty end
+strip-push : (text : List ℕ) → strip_carriage_return (text ++ 13 ∷ []) ≡ text
+strip-push text =
+    let at : length (text ++ 13 ∷ []) - 1 ≡ length text = omega (arith, length-append text (13 ∷ [])) in
+    let last : (get_or (text ++ 13 ∷ []) (length (text ++ 13 ∷ []) - 1) 0 == 13) ≡ true = eq-eqb _ 13 (get_or_push text 13 0 _ (sym at)) in
+    rw (last, at) (take_at text (13 ∷ []) (length text) refl)
 
-ends_by : (n last : ℕ) → 0 < n → last ≡ 0 → (nat_lt 0 n && nat_eq last 0) ≡ true
-ends_by n last h e = grind (arith, nat_tests)
+no_return : (c : ℕ) → IsVisible c → nat_eq c 13 ≡ false
+no_return c v = grind (arith, nat_tests)
 
-ends_not_by : (n last : ℕ) → (0 < n → 0 < last) → (nat_lt 0 n && nat_eq last 0) ≡ false
-ends_not_by n last h = grind (arith, nat_tests)
+-- a comment goes on without its last character
+comment_front : (rest front : List ℕ) → All (λ c. is_line_char c ≡ true) rest → 35 ∷ rest ≡ front ++ 13 ∷ [] → IsComment front
+comment_front rest [] h e = (let head : ◌≡◌ {A = ℕ} 35 13 = cc e in absurd (omega (arith, head)))
+comment_front rest (c ∷ front) h e =
+    let first : 35 ≡ c = cc e in
+    let others : rest ≡ front ++ 13 ∷ [] = cc e in
+    (front, ap (λ x. x ∷ front) (sym first), All-left (λ x. is_line_char x ≡ true) front (13 ∷ []) (subst (All (λ x. is_line_char x ≡ true)) others h))
 
-without_empty_end-push : (texts : List (List ℕ)) → without_empty_end (texts ++ [] ∷ []) ≡ texts
-without_empty_end-push texts =
-    let len : length (texts ++ [] ∷ []) ≡ length texts + 1 = length-append texts ([] ∷ []) in
-    let front : length texts ≡ length (texts ++ [] ∷ []) - 1 = omega arith in
-    let last : length (word (texts ++ [] ∷ []) (length (texts ++ [] ∷ []) - 1)) ≡ 0 = ap length (get_or_push texts [] [] _ front) in
-    let ends : ends_empty (texts ++ [] ∷ []) ≡ true = ends_by _ _ (omega arith) last in
-    rw ends (rw (← front) (take-append-le (length texts) texts ([] ∷ []) (omega arith) ∙ take_all (length texts) texts (omega arith)))
+ends_visibly : (line : Line) (front : List ℕ) → IsInRange line → spelling line ≡ front ++ 13 ∷ [] → ⊥
+ends_visibly line front h e =
+    let last = All-head (λ c. nat_eq c 13 ≡ false) 13 []
+    (All-right (λ c. nat_eq c 13 ≡ false) front (13 ∷ []) (subst (All (λ c. nat_eq c 13 ≡ false)) e (All-spelling (λ c. nat_eq c 13 ≡ false) refl no_return line h))) in
+    cc last
 
-without_empty_end-some : (texts : List (List ℕ)) → All (λ text. 0 < length text) texts → without_empty_end texts ≡ texts
-without_empty_end-some texts h =
-    let ends : ends_empty texts ≡ false = ends_not_by _ _ (λ some. h (length texts - 1) [] (omega arith)) in
-    rw ends refl
+strip_spelled : (text : List ℕ) (line : Line) → SpellsLine text line → SpellsLine (strip_carriage_return text) line
+strip_spelled text line s = elim (strip_cases text) [
+  | inl same ↦ subst (λ t. SpellsLine t line) same s
+  | inr cut ↦ front s cut
+]
+  where
+    front : SpellsLine text line → text ≡ strip_carriage_return text ++ 13 ∷ [] → SpellsLine (strip_carriage_return text) line
+    front (inl t) cut = absurd (ends_visibly line (strip_carriage_return text) t.1 (sym t.0 ∙ cut))
+    front (inr t) cut = inr (t.0, comment_front t.1.0 (strip_carriage_return text) t.1.2 (sym t.1.1 ∙ cut))
 
-empty_text : (text : List ℕ) → length text ≡ 0 → text ≡ []
-empty_text [] e = refl
-empty_text (c ∷ cs) e = absurd (omega arith)
+-- ---- pieces
 
-push-without_empty_end : (texts : List (List ℕ)) → ends_empty texts ≡ true → texts ≡ take (length texts - 1) texts ++ [] ∷ []
-push-without_empty_end texts h =
-    let p = and_parts (nat_lt 0 (length texts)) (nat_eq (length (word texts (length texts - 1))) 0) h in
-    let some : 0 < length texts = ltb-true 0 (length texts) p.0 in
-    let last = empty_text (word texts (length texts - 1)) (eqb-true _ 0 p.1) in
-    sym (take_all (length texts - 1 + 1) texts (omega arith)) ∙ take_more texts (length texts - 1) [] (omega arith)
-    ∙ ap (λ (text : List ℕ). take (length texts - 1) texts ++ text ∷ []) last
+one_line : (text : List ℕ) → 0 < length text → lines_of_parts (text ∷ []) ≡ text ∷ []
+one_line text some = ap (λ (b : Bool). if b then [] else text ∷ []) (ne_eqb (length text) 0 (λ e. omega arith))
 
--- ---- both ways
+more_lines : (piece : List ℕ) (pieces : List (List ℕ)) → 0 < length pieces → lines_of_parts (piece ∷ pieces) ≡ strip_carriage_return piece ∷ lines_of_parts pieces
+more_lines piece [] some = absurd (omega arith)
+more_lines piece (next ∷ pieces) some = refl
 
-pub lines_spelled : (bytes : List ℕ) (lines : List Line) → lines_of bytes ≡ map spelling lines → SpellsLines bytes lines
+some_pieces : (bytes : List ℕ) → 0 < length (slice_split is_newline bytes)
+some_pieces bytes = omega (arith, length-slice_split is_newline bytes)
+
+lacks_line_feed : (c : ℕ) → is_line_char c ≡ true → nat_eq c 10 ≡ false
+lacks_line_feed c h = grind (arith, nat_tests)
+
+pub line_lacks_line_feed : (text : List ℕ) (line : Line) → SpellsLine text line → Lacks 10 text
+line_lacks_line_feed text line s = All-weaker (λ c. is_line_char c ≡ true) (λ c. nat_eq c 10 ≡ false) lacks_line_feed text (line_chars text line s)
+
+-- ---- what is read is spelled so
+
+unended : (last : List ℕ) (lines : List Line) → SpellEach (lines_of_parts (last ∷ [])) lines → SpellsLines last lines
+unended [] [] h = refl
+unended [] (line ∷ lines) h = absurd h
+unended (c ∷ cs) [] h = absurd (subst (λ (ts : List (List ℕ)). SpellEach ts []) (one_line (c ∷ cs) (omega arith)) h)
+unended (c ∷ cs) (line ∷ []) h =
+    inr (refl, omega arith, (subst (λ (ts : List (List ℕ)). SpellEach ts (line ∷ [])) (one_line (c ∷ cs) (omega arith)) h).0)
+unended (c ∷ cs) (line ∷ next ∷ lines) h = absurd (subst (λ (ts : List (List ℕ)). SpellEach ts (line ∷ next ∷ lines)) (one_line (c ∷ cs) (omega arith)) h).1
+
+line_feed_joined : (piece text rest : List ℕ) → piece ≡ text → piece ++ 10 ∷ rest ≡ text ++ (10 ∷ []) ++ rest
+line_feed_joined piece text rest e = ap (λ (p : List ℕ). p ++ 10 ∷ rest) e ∙ sym (append_assoc text (10 ∷ []) rest)
+
+return_joined : (piece text rest : List ℕ) → piece ≡ text ++ 13 ∷ [] → piece ++ 10 ∷ rest ≡ text ++ (13 ∷ 10 ∷ []) ++ rest
+return_joined piece text rest e =
+    ap (λ (p : List ℕ). p ++ 10 ∷ rest) e ∙ append_assoc text (13 ∷ []) (10 ∷ rest) ∙ sym (append_assoc text (13 ∷ 10 ∷ []) rest)
+
+begins : (piece rest : List ℕ) (line : Line) (lines : List Line) → SpellsLine (strip_carriage_return piece) line → SpellsLines rest lines
+    → SpellsLines (piece ++ 10 ∷ rest) (line ∷ lines)
+begins piece rest line lines s more = elim (strip_cases piece) [
+  | inl same ↦ inl (record {
+    text = strip_carriage_return piece;
+    end = 10 ∷ [];
+    rest = rest;
+    joined = line_feed_joined piece (strip_carriage_return piece) rest same;
+    spelled = s;
+    ended = inl refl;
+    goes_on = more;
+  })
+  | inr cut ↦ inl (record {
+    text = strip_carriage_return piece;
+    end = 13 ∷ 10 ∷ [];
+    rest = rest;
+    joined = return_joined piece (strip_carriage_return piece) rest cut;
+    spelled = s;
+    ended = inr refl;
+    goes_on = more;
+  })
+]
+
+pieces_spelled : (pieces : List (List ℕ)) (lines : List Line) → 0 < length pieces → SpellEach (lines_of_parts pieces) lines → SpellsLines (join_with_byte 10 pieces) lines
+pieces_spelled [] lines some h = absurd (omega arith)
+pieces_spelled (last ∷ []) lines some h = unended last lines h
+pieces_spelled (piece ∷ next ∷ pieces) [] some h = absurd h
+pieces_spelled (piece ∷ next ∷ pieces) (line ∷ lines) some h =
+    begins piece (join_with_byte 10 (next ∷ pieces)) line lines h.0 (pieces_spelled (next ∷ pieces) lines (omega arith) h.1)
+
+pub lines_spelled : (bytes : List ℕ) (lines : List Line) → SpellEach (lines_of bytes) lines → SpellsLines bytes lines
 lines_spelled bytes lines h =
-    let pieces : List (List ℕ) = slice_split is_line_feed bytes in
-    elim (cases_Bool (ends_empty pieces)) [
-      | inl ends ↦ inl (sym (join_with_byte-slice_split 10 bytes)
-          ∙ ap (join_with_byte 10) (push-without_empty_end pieces ends ∙ ap (λ (texts : List (List ℕ)). texts ++ [] ∷ []) (rw ends at h)) ∙ join_with_byte-ended lines)
-      | inr whole ↦ inr (sym (join_with_byte-slice_split 10 (bytes ++ 10 ∷ []))
-          ∙ ap (join_with_byte 10) (slice_split-push is_line_feed bytes 10 refl ∙ ap (λ (texts : List (List ℕ)). texts ++ [] ∷ []) (rw whole at h)) ∙ join_with_byte-ended lines)
-    ]
+    subst (λ b. SpellsLines b lines) (join_with_byte-slice_split 10 bytes) (pieces_spelled (slice_split is_newline bytes) lines (some_pieces bytes) h)
 
-some_spelling : (line : Line) → 0 < length (spelling line)
-some_spelling (Task name kind min precision) = omega arith
-some_spelling (Measure name id time value seed) = omega arith
-some_spelling (Collect name start) = omega arith
+-- ---- what is spelled so is read
 
-pub lines_of-spelling : (bytes : List ℕ) (lines : List Line) → All IsInRange lines → SpellsLines bytes lines → lines_of bytes ≡ map spelling lines
-lines_of-spelling bytes lines h (inl ended) =
-    ap without_empty_end (ap (slice_split is_line_feed) ended ∙ slice_split-ended_text lines h) ∙ without_empty_end-push (map spelling lines)
-lines_of-spelling bytes lines h (inr ended) =
-    ap without_empty_end (append_cancel_right (slice_split is_line_feed bytes) (map spelling lines) ([] ∷ [])
-    (sym (slice_split-push is_line_feed bytes 10 refl) ∙ ap (slice_split is_line_feed) ended ∙ slice_split-ended_text lines h))
-    ∙ without_empty_end-some (map spelling lines) (All-map (λ text. 0 < length text) spelling lines (λ k d lt. some_spelling _))
+first_line : (piece rest : List ℕ) (line : Line) (lines : List Line) → Lacks 10 piece → SpellsLine (strip_carriage_return piece) line → SpellEach (lines_of rest) lines
+    → SpellEach (lines_of (piece ++ 10 ∷ rest)) (line ∷ lines)
+first_line piece rest line lines lacks s more =
+    subst (λ (ts : List (List ℕ)). SpellEach ts (line ∷ lines))
+    (sym (ap lines_of_parts (slice_split_at is_newline piece 10 rest lacks refl) ∙ more_lines piece (slice_split is_newline rest) (some_pieces rest))) (s, more)
+
+return_lacks : (text : List ℕ) → Lacks 10 text → Lacks 10 (text ++ 13 ∷ [])
+return_lacks text h = All-append (λ c. nat_eq c 10 ≡ false) text (13 ∷ []) h (All-cons (λ c. nat_eq c 10 ≡ false) 13 [] refl (All-nil (λ c. nat_eq c 10 ≡ false)))
+
+ended_line : (bytes : List ℕ) (line : Line) (lines : List Line) → (b : Begins line (λ rest. SpellsLines rest lines) bytes) → SpellEach (lines_of b.rest) lines
+    → IsLineEnd b.end → SpellEach (lines_of bytes) (line ∷ lines)
+ended_line bytes line lines b more (inl e) =
+    let joined : bytes ≡ b.text ++ 10 ∷ b.rest = b.joined ∙ ap (λ (end : List ℕ). b.text ++ end ++ b.rest) e ∙ append_assoc b.text (10 ∷ []) b.rest in
+    subst (λ t. SpellEach (lines_of t) (line ∷ lines)) (sym joined)
+    (first_line b.text b.rest line lines (line_lacks_line_feed b.text line b.spelled) (strip_spelled b.text line b.spelled) more)
+ended_line bytes line lines b more (inr e) =
+    let joined : bytes ≡ (b.text ++ 13 ∷ []) ++ 10 ∷ b.rest =
+    b.joined ∙ ap (λ (end : List ℕ). b.text ++ end ++ b.rest) e ∙ append_assoc b.text (13 ∷ 10 ∷ []) b.rest
+    ∙ sym (append_assoc b.text (13 ∷ []) (10 ∷ b.rest)) in
+    subst (λ t. SpellEach (lines_of t) (line ∷ lines)) (sym joined)
+    (first_line (b.text ++ 13 ∷ []) b.rest line lines (return_lacks b.text (line_lacks_line_feed b.text line b.spelled))
+    (subst (λ t. SpellsLine t line) (sym (strip-push b.text)) b.spelled) more)
+
+pub lines_of-spelled : (lines : List Line) (bytes : List ℕ) → SpellsLines bytes lines → SpellEach (lines_of bytes) lines
+lines_of-spelled [] bytes e = subst (λ b. SpellEach (lines_of b) []) (sym e) tt
+lines_of-spelled (line ∷ lines) bytes (inl b) = ended_line bytes line lines b (lines_of-spelled lines b.rest b.goes_on) b.ended
+lines_of-spelled (line ∷ lines) bytes (inr u) =
+    let whole : lines_of bytes ≡ bytes ∷ [] = ap lines_of_parts (slice_split_none is_newline bytes (line_lacks_line_feed bytes line u.2)) ∙ one_line bytes u.1 in
+    subst (λ ls. SpellEach (lines_of bytes) (line ∷ ls)) (sym u.0) (subst (λ (ts : List (List ℕ)). SpellEach ts (line ∷ [])) (sym whole) (u.2, tt))

@@ -3,28 +3,85 @@
 ghost use Rattle.std.specs.Prelude.{◌≤◌, length};
 
 use super::*;
-use dap_bytes::Name;
+use dap_bytes::{Bytes, Name, Node};
 use std::alloc::Global;
 use std::test::Fail;
+use vdaf_api::{Bounds, Kind};
 
-const TEXT: &[u8] = b"task v count 3 3600
-measure v 000102030405060708090a0b0c0d0e0f 10 1 ffffffffffffffffffffffffffffff00
+const TEXT: &[u8] = b"# every form of line
+task v count 3 3600\r
+
+task s-1 sum 64 1000000 1000000000
+task h_ histogram 0,10,18446744073709551615 1 1
+now 999999999999999999
+measure v 000102030405060708090a0b0c0d0e0f 10 18446744073709551615 ffffffffffffffffffffffffffffff00
+upload Zm8=
 collect v 7200
-";
+restart leader
+restart helper";
+
+fn kinds(alloc: Global) -> Result<[Kind; 3], Fail> {
+    let bounds = Bounds::new(Vec::from_slice(alloc, &[0, 10, u64::MAX])?);
+    Ok([
+        Kind::Count,
+        Kind::Sum { bits: 64 },
+        Kind::Histogram { bounds },
+    ])
+}
+
+fn name(text: &[u8]) -> Result<Name, Fail> {
+    Ok(Name::new(text).ok_or("a name")?)
+}
 
 #[test]
 fn a_script_is_its_lines(rt: HostRuntime) -> Result<(), Fail> {
-    let script = read_script(rt.alloc(), TEXT)?;
-    let v = Name::new(b"v").ok_or("a name")?;
-    let mut each = script.iter();
-    assert!(rt;
-        matches!(each.next(), Some(Line::Task { name, kind: Kind::Count, min: 3, precision: 3600 }) if *name == v)
-    );
-    assert!(rt;
-        matches!(each.next(), Some(Line::Measure { id, time: 10, value: 1, seed, .. }) if id[15] == 15 && seed[14] == 255)
-    );
-    assert!(rt; matches!(each.next(), Some(Line::Collect { name, start: 7200 }) if *name == v));
-    assert!(rt; each.next().is_none());
+    let alloc = rt.alloc();
+    let v = name(b"v")?;
+    let [count, sum, histogram] = kinds(alloc)?;
+    let mut seed = [255; 16];
+    seed[15] = 0;
+    let expected = [
+        Line::Blank,
+        Line::Task {
+            name: v,
+            kind: count,
+            min: 3,
+            precision: 3600,
+        },
+        Line::Blank,
+        Line::Task {
+            name: name(b"s-1")?,
+            kind: sum,
+            min: 1_000_000,
+            precision: 1_000_000_000,
+        },
+        Line::Task {
+            name: name(b"h_")?,
+            kind: histogram,
+            min: 1,
+            precision: 1,
+        },
+        Line::Now {
+            t: 999_999_999_999_999_999,
+        },
+        Line::Measure {
+            name: v,
+            id: [0, 1, 2, 3, 4, 5, 6, 7, 8, 9, 10, 11, 12, 13, 14, 15],
+            time: 10,
+            value: u64::MAX,
+            seed,
+        },
+        Line::Upload {
+            report: Bytes::new(Vec::from_slice(alloc, b"fo")?),
+        },
+        Line::Collect {
+            name: v,
+            start: 7200,
+        },
+        Line::Restart { node: Node::Leader },
+        Line::Restart { node: Node::Helper },
+    ];
+    assert!(rt; read_script(alloc, TEXT)?.as_slice() == expected.as_slice());
     Ok(())
 }
 
@@ -40,31 +97,54 @@ fn refused(alloc: Global, text: &[u8]) -> u32
 
 #[test]
 fn the_first_line_that_does_not_fit_is_refused(rt: HostRuntime) {
-    let alloc = rt.alloc();
-    assert_eq!(rt; refused(alloc, b""), 0);
-    assert_eq!(rt; refused(alloc, b"task v count 1000000 1000000000"), 0);
-    assert_eq!(rt; refused(alloc, b"\n"), 1);
-    assert_eq!(rt; refused(alloc, b"now 5\n"), 1);
-    assert_eq!(rt; refused(alloc, b"task v count 3 3600\r\n"), 1);
-    assert_eq!(rt; refused(alloc, b"task v  count 3 3600"), 1);
-    assert_eq!(rt; refused(alloc, b"task v count 03 3600"), 1);
-    assert_eq!(rt; refused(alloc, b"task v count +3 3600"), 1);
-    assert_eq!(rt; refused(alloc, b"task v count 1000001 3600"), 1);
-    assert_eq!(rt; refused(alloc, b"task V count 3 3600"), 1);
-    assert_eq!(rt; refused(alloc, b"task v count 3 3600 "), 1);
-    assert_eq!(rt; refused(alloc, b"task v\xc3\xa9 count 3 3600"), 1);
-    assert_eq!(rt; refused(alloc, b"task v count 3 3600\ncollect v 1"), 2);
-    assert_eq!(rt;
-        refused(alloc, b"task v count 3 3600\ntask w count 3 3600"),
-        2
-    );
-    assert_eq!(rt;
-        refused(alloc, b"task v count 3 3600\ncollect v 1000000000000000000"),
-        2
-    );
-    assert_eq!(rt; refused(alloc, b"task v count 3 3600\n\n"), 2);
-    assert_eq!(rt;
-        refused(alloc, b"task v count 3 3600\ncollect v 0\ncollect v 0"),
-        3
-    );
+    let cases: [(&[u8], u32); 34] = [
+        (b"", 0),
+        (b"\n\r\n#\n# a \xc2", 4),
+        (b"# ends with a return\r", 0),
+        (b"\n\r", 2),
+        (b"\r\r\n", 1),
+        (b"collect v 0\r", 1),
+        (b" \n", 1),
+        (b"collect v 0 \n", 1),
+        (b"collect  v 0\n", 1),
+        (b"Collect v 0", 1),
+        (b"collect V 0", 1),
+        (b"collect v 01", 1),
+        (b"collect v +1", 1),
+        (b"collect v -1", 1),
+        (b"collect v 1000000000000000000", 1),
+        (b"collect v 0 1", 1),
+        (b"task v count 0 1", 1),
+        (b"task v count 1000001 1", 1),
+        (b"task v count 1 1000000001", 1),
+        (b"task v sum 0 1 1", 1),
+        (b"task v sum 65 1 1", 1),
+        (b"task v histogram 1,1 1 1", 1),
+        (b"task v histogram 1,,2 1 1", 1),
+        (b"task v histogram 18446744073709551616 1 1", 1),
+        (
+            b"task v histogram 1 1 1\ntask w count 1 1\n\ntask v sum 1 1 1\nx",
+            4,
+        ),
+        (b"task v count 1 1\nmeasure w 0 0 0 0\ntask v count 1 1", 2),
+        (
+            b"measure v 0000000000000000000000000000000A 0 0 00000000000000000000000000000000",
+            1,
+        ),
+        (
+            b"measure v 0000000000000000000000000000000a 0 18446744073709551616 00000000000000000000000000000000",
+            1,
+        ),
+        (b"now 1000000000000000000", 1),
+        (b"upload Zg==\nupload Zg=", 2),
+        (b"upload Zh==", 1),
+        (b"upload ", 1),
+        (b"restart both", 1),
+        (b"restart leader helper", 1),
+    ];
+    for (text, line) in cases {
+        if text.len() <= 67_108_864 {
+            assert_eq!(rt; refused(rt.alloc(), text), line);
+        }
+    }
 }
