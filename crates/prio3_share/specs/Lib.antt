@@ -3,4 +3,7 @@ pub mod Texts
 pub mod Sharing
 pub mod Preparing
 pub mod Functions
-pub mod Shared
+pub mod Steps
+pub mod Splits
+pub mod Seen
+pub mod Added

@@ -3,6 +3,22 @@
 //! definitions, with the streams, parts and joint randomness that both sides make alike.
 #![tactic(auto)]
 
+mod based;
+mod halves;
+mod joint;
+mod keys;
+mod laws;
+mod report;
+mod sharing;
+mod splitting;
+mod spreading;
+mod streams;
+mod texts;
 mod usage;
 
+pub use based::Based;
+pub use laws::{halves_add_to_the_whole, shares_have_their_lengths};
+pub use sharing::{shard, shard_input};
+pub use streams::{draw_for, joint_seed_of, part_of};
+pub use texts::{info_text, push_elements};
 pub use usage::Usage;

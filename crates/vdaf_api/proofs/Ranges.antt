@@ -1,15 +1,15 @@
 -- Neighbours that rise: the test of each pair, the definition that computes, and the fact agree; so do the two forms
 -- of the ranges of kinds.
-use Rattle.std.proofs.Common.{◌≡◌, ℕ, zero, suc, ◌+◌, ◌<◌, ◌≤◌, List, [], ◌∷◌, length, Bool, true, false, IsTrue, ◌↔◌, sym, ap, ◌∙◌, refl, subst, arith, get_or}
+use Rattle.std.proofs.Common.{◌≡◌, ℕ, zero, suc, ◌<◌, ◌≤◌, List, [], ◌∷◌, length, Bool, true, false, IsTrue, ◌↔◌, sym, ap, ◌∙◌, refl, subst, arith, get_or}
 use Rattle.std.specs.Prelude.{◌&&◌, nat_le, nat_lt}
-use Rattle.std.specs.List.{AllAdjacentBelow, IsAllAdjacentAnswer}
+use Rattle.std.specs.List.{IsAllAdjacentAnswer}
 use Rattle.std.specs.List.Sorted.{IsStrictlyIncreasing}
 use Rattle.std.proofs.lemmas.Bool.{and_from, and_parts}
 use Rattle.std.proofs.lemmas.Bool.Decides.{nat_tests}
 use native.Mathlib.Numerals.{add-one}
 use Rattle.vdaf_api.specs.declared.kind.Kind.{Kind}
 use Rattle.vdaf_api.specs.declared.kind.Kind.TheVariants.{Count, Sum, Histogram}
-use Rattle.vdaf_api.specs.Kind.{ascends_from, ascends, is_kind, AreBounds, IsKind}
+use Rattle.vdaf_api.specs.Kind.{ascends_from, ascends, is_kind, IsKind}
 
 -- each pair of neighbours passes the test
 abbrev Rises : List ℕ → Type 0

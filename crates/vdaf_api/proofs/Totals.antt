@@ -1,9 +1,9 @@
 -- Two sums of out shares add to the sum of the contents.
-use Rattle.std.proofs.Common.{◌≡◌, ℕ, List, [], ◌∷◌, length, map, Option, Some, None, sym, ap, ◌∙◌, refl, subst}
+use Rattle.std.proofs.Common.{◌≡◌, ℕ, List, [], ◌∷◌, map, Some, sym, ap, ◌∙◌}
 use Rattle.std.specs.Prelude.{replicate}
 use Rattle.field_laws.specs.Vector.{add_each}
 use Rattle.vdaf_api.specs.declared.space.Space.{Space}
-use Rattle.vdaf_api.specs.Vectors.{spelled, vector_of, Below, vector, IsOut, zero_share, sum_in, plus, SpaceLaws, numbers, numbers_in}
+use Rattle.vdaf_api.specs.Vectors.{vector, zero_share, plus, SpaceLaws, numbers, numbers_in}
 use Rattle.vdaf_api.specs.Totals.{total, total_numbers, Pair, leaders, helpers, contents, AreOuts}
 use Rattle.vdaf_api.specs.Sums.{plus_comm, plus_assoc, plus-zero, vector-plus, vector-zero}
 

@@ -6,7 +6,7 @@ use Rattle.vdaf_api.specs.declared.fault.ShardFault.{ShardFault}
 use Rattle.vdaf_api.specs.declared.fault.ShardFault.TheVariants as shard
 use Rattle.vdaf_api.specs.declared.fault.PrepFault.{PrepFault}
 use Rattle.vdaf_api.specs.declared.fault.PrepFault.TheVariants as prep
-use Rattle.vdaf_api.specs.Functions.{Functions, Parts}
+use Rattle.vdaf_api.specs.Functions.{Parts}
 
 abbrev pub parts_of : Shares → Parts
 parts_of s = record { public = s.public; leader = s.leader; helper = s.helper }

@@ -1,5 +1,5 @@
 -- The laws of a measurement function.
-use Rattle.std.specs.Prelude.{◌≡◌, ℕ, ◌≤◌, List, length, Option, Some, true}
+use Rattle.std.specs.Prelude.{◌≡◌, ℕ, ◌≤◌, List, length, Some, true}
 use Rattle.field_laws.specs.Vector.{add_each}
 use Rattle.vdaf_api.specs.declared.space.Space.{Space}
 use Rattle.vdaf_api.specs.declared.role.Role.{Role}

@@ -1,11 +1,10 @@
 -- Vectors and their bytes lead back to one another.
 use Rattle.std.proofs.Common.{◌≡◌, ℕ, zero, suc, ◌+◌, ◌-◌, ◌*◌, ◌/◌, ◌%◌, ◌^◌, ◌<◌, ◌≤◌, List, [], ◌∷◌, ◌++◌, length, get_or, take, drop, Bool, true, false, Option, Some, None, sym, ap, ◌∙◌, refl, arith, subst}
-use Rattle.std.specs.Prelude.{nat_eq, nat_lt, replicate, ◌&&◌}
+use Rattle.std.specs.Prelude.{nat_eq, nat_lt, replicate}
 use Rattle.std.specs.List.{list_all}
-use Rattle.std.proofs.Math.Nat.{pow-suc}
 use Rattle.std.proofs.Math.ListN.{length-append}
 use Rattle.std.proofs.Math.Seq.{take-append_seam, drop-append_seam}
-use Rattle.std.proofs.lemmas.Bool.{and_from, and_parts}
+use Rattle.std.proofs.lemmas.Bool.{and_parts}
 use Rattle.std.proofs.lemmas.Bool.Decides.{nat_tests}
 use Rattle.std.proofs.lemmas.List.{take-append-drop}
 use Rattle.field_laws.specs.Bytes.{low_bytes, from_low}
@@ -169,3 +168,10 @@ spelled-none p w = refl
 pub low_bytes-none : (v : ℕ) → low_bytes 0 v ≡ []
 unfolding low_bytes
 low_bytes-none v = refl
+
+-- each entry is below p, and so is what is read past the end
+pub below-at : (p : ℕ) (xs : List ℕ) (i : ℕ) → 1 ≤ p → Below p xs → get_or xs i 0 < p
+unfolding Below
+below-at p [] i some below = omega arith
+below-at p (x ∷ xs) zero some below = below.0
+below-at p (x ∷ xs) (suc i) some below = below-at p xs i some below.1

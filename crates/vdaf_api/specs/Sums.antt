@@ -1,11 +1,11 @@
 -- Sums of vectors and of out shares.
-use Rattle.std.proofs.Common.{◌≡◌, ℕ, zero, suc, ◌+◌, ◌-◌, ◌*◌, ◌%◌, ◌^◌, ◌<◌, ◌≤◌, List, [], ◌∷◌, ◌++◌, length, Option, Some, None, sym, ap, ◌∙◌, refl, arith, subst}
+use Rattle.std.proofs.Common.{◌≡◌, ℕ, zero, suc, ◌+◌, ◌*◌, ◌%◌, ◌≤◌, List, [], ◌∷◌, length, Option, Some, None, sym, ap, ◌∙◌, refl, arith}
 use Rattle.std.specs.Prelude.{replicate}
 use Rattle.std.proofs.Math.Nat.{mul-le-mul, mod-add-mod, add-mod-mod, mod-eq_of_lt}
 use Rattle.std.proofs.lemmas.List.{length-replicate}
 use Rattle.field_laws.specs.Vector.{add_each}
 use Rattle.vdaf_api.specs.declared.space.Space.{Space}
-use Rattle.vdaf_api.specs.Vectors.{spelled, vector_of, Below, vector, IsOut, zero_share, sum_in, plus, SpaceLaws, numbers, numbers_in}
+use Rattle.vdaf_api.specs.Vectors.{spelled, vector_of, Below, vector, IsOut, zero_share, sum_in, plus, SpaceLaws}
 use Rattle.vdaf_api.specs.Spelled.{vector_of-spelled, vector_of-back, Spells}
 
 pub add_each-comm : (p : ℕ) (xs ys : List ℕ) → length xs ≡ length ys → add_each p xs ys ≡ add_each p ys xs
@@ -115,3 +115,7 @@ plus-zero {s} laws a xs e =
     let k : Spells s.modulus s.width s.size a xs = vector_of-back s.modulus s.width s.size a xs e in
     plus-out s (zero_share s) a (replicate s.size 0) xs (vector-zero laws) e
     ∙ ap (λ n. spelled s.width (add_each s.modulus (replicate n 0) xs)) (sym k.size) ∙ ap (spelled s.width) (add_each-zero s.modulus xs k.below) ∙ k.back
+
+-- the sum of two out shares is one
+pub plus-is_out : {s : Space} → SpaceLaws s → (a b : List ℕ) → IsOut s a → IsOut s b → IsOut s (plus s a b)
+plus-is_out {s} laws a b ha hb = (add_each s.modulus ha.0 hb.0, vector-plus laws a b ha.0 hb.0 ha.1 hb.1)

@@ -1,10 +1,9 @@
 -- The toy function: a number below 2 ^ 32 in two shares modulo 2 ^ 64.
-use Rattle.std.specs.Prelude.{◌≡◌, ℕ, ◌+◌, ◌-◌, ◌%◌, List, [], ◌∷◌, length, take, Bool, true, false, ◌&&◌, nat_eq, nat_lt, Option, Some, None}
+use Rattle.std.specs.Prelude.{ℕ, ◌+◌, ◌-◌, ◌%◌, List, [], ◌∷◌, length, take, Bool, true, false, ◌&&◌, nat_eq, nat_lt, Option, Some, None}
 use Rattle.std.proofs.Common.{get_or}
 use Rattle.field_laws.specs.Bytes.{low_bytes, from_low}
 use Rattle.vdaf_api.specs.declared.space.Space.{Space}
 use Rattle.vdaf_api.specs.declared.role.Role.{Role}
-use Rattle.vdaf_api.specs.declared.answer.Answer.{Answer}
 use Rattle.vdaf_api.specs.declared.answer.Answer.TheVariants.{Sum}
 use Rattle.vdaf_api.specs.Functions.{Functions, Parts}
 use Rattle.vdaf_api.specs.Vectors.{when, vector}

@@ -1,20 +1,18 @@
 -- The toy function keeps the laws.
-use Rattle.std.proofs.Common.{◌≡◌, ℕ, zero, suc, ◌+◌, ◌-◌, ◌*◌, ◌/◌, ◌%◌, ◌^◌, ◌<◌, ◌≤◌, List, [], ◌∷◌, ◌++◌, length, take, Bool, true, false, Option, Some, None, sym, ap, ◌∙◌, refl, arith, subst, lit≤, lit<}
-use Rattle.std.specs.Prelude.{nat_eq, nat_lt, ◌&&◌}
+use Rattle.std.proofs.Common.{◌≡◌, ℕ, ◌+◌, ◌-◌, ◌%◌, ◌<◌, List, [], ◌∷◌, length, Bool, true, false, Option, Some, None, sym, ap, ◌∙◌, refl, arith, subst, lit≤}
+use Rattle.std.specs.Prelude.{nat_lt, ◌&&◌}
 use Rattle.std.proofs.lemmas.Bool.{and_parts}
 use Rattle.std.proofs.lemmas.Bool.Decides.{nat_tests}
-use Rattle.std.proofs.lemmas.List.{append-nil, take_all}
-use Rattle.field_laws.specs.Bytes.{low_bytes, from_low}
+use Rattle.std.proofs.lemmas.List.{append-nil}
+use Rattle.field_laws.specs.Bytes.{low_bytes}
 use Rattle.field_laws.specs.Vector.{add_each}
 use Rattle.field_laws.proofs.Spelling.{length-low_bytes}
-use Rattle.vdaf_api.specs.declared.role.Role.{Role}
-use Rattle.vdaf_api.specs.declared.role.Role.TheVariants.{Leader, Helper}
-use Rattle.vdaf_api.specs.Functions.{Functions, Parts}
-use Rattle.vdaf_api.specs.Vectors.{when, vector, vector_of, spelled, IsOut, Below, plus, SpaceLaws, numbers_in, numbers}
+use Rattle.vdaf_api.specs.Functions.{Parts}
+use Rattle.vdaf_api.specs.Vectors.{when, vector, spelled, IsOut, Below, plus, SpaceLaws, numbers_in}
 use Rattle.vdaf_api.specs.Verdict.{opened, verdict, numbers_of, ok}
 use Rattle.vdaf_api.specs.Laws.{FunctionLaws, PartsAreShort}
 use Rattle.vdaf_api.specs.Toy.{toy_space, is_empty, is_toy, some_vector, toy_helper, toy_leader, toy_shard, toy_share, toy_combine, toy_finish, toy_out, toy_encoding, toy_functions}
-use Rattle.vdaf_api.specs.Spelled.{when-some, FirstOf, first_of, Spells, vector_of-back}
+use Rattle.vdaf_api.specs.Spelled.{when-some}
 use Rattle.vdaf_api.specs.Sums.{vector-spelled, vector-plus}
 use Rattle.vdaf_api.specs.Verdicts.{verdict-ok}
 
@@ -71,19 +69,6 @@ is_toy-decides bytes t to from = go (vector toy_space bytes) t refl refl
     go (Some xs) false h e = absurd (let k : t ≡ true = from (xs, h) in cc)
     go None false h e = refl
     go None true h e = absurd (let k = to e in let m : Some k.0 ≡ None = sym k.1 ∙ h in cc)
-
-pub toy_number : (bytes : List ℕ) → IsOut toy_space bytes → numbers toy_space bytes ≡ from_low bytes ∷ []
-toy_number bytes v =
-    let f : FirstOf 18446744073709551616 8 1 bytes v.0 = first_of 18446744073709551616 8 1 bytes v.0 (lit< tt) v.1 in
-    let k : Spells 18446744073709551616 8 1 bytes v.0 = vector_of-back 18446744073709551616 8 1 bytes v.0 v.1 in
-    let len : length v.0 ≡ 1 = k.size in
-    let none : f.rest ≡ [] = no_rest f.rest (let e : length v.0 ≡ suc (length f.rest) = ap length f.is in omega arith) in
-    let all : take 8 bytes ≡ bytes = take_all 8 bytes (omega (arith, k.bytes)) in
-    ap numbers_in v.1 ∙ f.is ∙ ap (λ l. f.x ∷ l) none ∙ ap (λ n. n ∷ []) (sym f.value ∙ ap from_low all)
-  where
-    no_rest : (xs : List ℕ) → length xs ≡ 0 → xs ≡ []
-    no_rest [] e = refl
-    no_rest (x ∷ xs) e = absurd (omega arith)
 
 pub ruleset toy_tests = (is_toy-decides)
 

@@ -1,5 +1,5 @@
 -- Verdicts, step by step.
-use Rattle.std.proofs.Common.{◌≡◌, ℕ, List, Option, Some, None, sym, ap, ◌∙◌, refl, subst}
+use Rattle.std.proofs.Common.{◌≡◌, ℕ, List, Option, Some, None, sym, ap, ◌∙◌, refl}
 use Rattle.std.specs.Option.{option_and_then}
 use Rattle.vdaf_api.specs.declared.role.Role.{Role}
 use Rattle.vdaf_api.specs.declared.role.Role.TheVariants.{Leader, Helper}
@@ -9,7 +9,7 @@ use Rattle.vdaf_api.specs.Functions.{Functions, Parts}
 use Rattle.field_laws.specs.Vector.{add_each}
 use Rattle.vdaf_api.specs.Vectors.{IsOut, vector, numbers, numbers_in, plus}
 use Rattle.vdaf_api.specs.Sums.{vector-plus}
-use Rattle.vdaf_api.specs.Verdict.{Opened, opened, Verdict, ok, bad, or_invalid, helper_share, helper_step, leader_message, leader_part, item_after, leader_item, out_of, helper_out, leader_out, both_outs, verdict_after, verdict, numbers_of}
+use Rattle.vdaf_api.specs.Verdict.{Opened, opened, ok, bad, or_invalid, helper_step, leader_message, item_after, leader_item, out_of, helper_out, leader_out, both_outs, verdict_after, verdict, numbers_of}
 use Rattle.vdaf_api.specs.Laws.{FunctionLaws, AddToContent}
 
 pub verdict-ok : (f : Functions) (key id : List ℕ) (p : Parts) (ls hs message lo ho : List ℕ)

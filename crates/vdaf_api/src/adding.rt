@@ -1,8 +1,8 @@
 //! Out shares as bytes: tests and sums.
-ghost use Rattle.std.specs.Prelude.{◌≡◌, ◌+◌, ◌%◌, ◌<◌, ◌≤◌, ◌↔◌, ℕ, List, Some, IfOk, length, IsTrue};
+ghost use Rattle.std.specs.Prelude.{◌≡◌, ◌+◌, ◌*◌, ◌%◌, ◌<◌, ◌≤◌, ◌↔◌, ℕ, List, ◌++◌, Some, IfOk, OnOk, length, slice_index, IsTrue};
 ghost use Rattle.field_laws.specs.Bytes.{low_bytes, from_low};
 ghost use Rattle.field_laws.specs.Vector.{add_each};
-ghost use Rattle.vdaf_api.specs.Vectors.{IsOut, plus, zero_share, spelled, vector_of, IsVector, SpaceLaws};
+ghost use Rattle.vdaf_api.specs.Vectors.{IsOut, plus, zero_share, numbers, spelled, vector_of, IsVector, SpaceLaws};
 
 use crate::space::Space;
 use std::alloc::{AllocError, Global};
@@ -14,6 +14,19 @@ impl Space {
         ensures { IsTrue result ↔ IsOut self.now bytes.now }
     {
         is_vector(self.modulus, self.width, self.size, bytes)
+    }
+
+    /// The numbers that an out share holds, in order.
+    pub fn numbers(&self, alloc: Global, out: &[u8]) -> Result<Vec<u128>, AllocError>
+        requires space { SpaceLaws self.now }
+        requires out { IsOut self.now out.now }
+        ensures numbers { IfOk result (λ v. v.items ≡ numbers self.now out.now) }
+        ensures size { IfOk result (λ v. length v.items ≡ self.now.size) }
+        ensures below { IfOk result (λ v. (i : ℕ) → slice_index v.items i < self.now.modulus) }
+    {
+        let mut numbers = Vec::new(alloc);
+        read_from(self.width, self.size, out, &mut numbers)?;
+        Ok(numbers)
     }
 
     /// The out share of noughts.
@@ -44,6 +57,24 @@ impl Space {
         let mut total = leader.to_vec(alloc)?;
         self.add(&mut total, helper);
         Ok(total)
+    }
+
+    /// The numbers that the sum of two out shares holds, in order.
+    pub fn sum_numbers(
+        &self,
+        alloc: Global,
+        leader: &[u8],
+        helper: &[u8],
+    ) -> Result<Vec<u128>, AllocError>
+        requires space { SpaceLaws self.now }
+        requires leader { IsOut self.now leader.now }
+        requires helper { IsOut self.now helper.now }
+        ensures numbers { IfOk result (λ v. v.items ≡ numbers self.now (plus self.now leader.now helper.now)) }
+        ensures size { IfOk result (λ v. length v.items ≡ self.now.size) }
+        ensures below { IfOk result (λ v. (i : ℕ) → slice_index v.items i < self.now.modulus) }
+    {
+        let total = self.sum(alloc, leader, helper)?;
+        self.numbers(alloc, &total)
     }
 }
 
@@ -102,6 +133,25 @@ fn is_vector(p: u128, width: usize, size: usize, bytes: &[u8]) -> bool
     }
     let (first, rest) = bytes.split_at(width);
     number(first) < p && is_vector(p, width, size - 1, rest)
+}
+
+/// Appends the numbers that the bytes spell.
+fn read_from(
+    width: usize,
+    size: usize,
+    bytes: &[u8],
+    numbers: &mut Vec<u128>,
+) -> Result<(), AllocError>
+    requires width { width ≤ 16 }
+    requires length { length bytes.now ≡ size * width }
+    ensures { (p : ℕ) (xs : List ℕ) → vector_of p width size bytes.now ≡ Some xs → OnOk result (numbers.new.items ≡ numbers.old.items ++ xs) }
+{
+    if size == 0 {
+        return Ok(());
+    }
+    let (first, rest) = bytes.split_at(width);
+    numbers.push(number(first))?;
+    read_from(width, size - 1, rest, numbers)
 }
 
 fn add_from(p: u128, width: usize, size: usize, total: &mut [u8], out: &[u8])

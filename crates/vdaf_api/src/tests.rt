@@ -169,6 +169,14 @@ fn out_shares_are_numbers_below_the_modulus(rt: HostRuntime) -> Result<(), Fail>
         assert_eq!(rt; total.as_slice(), wanted.as_slice());
         assert_eq!(rt; sum.as_slice(), wanted.as_slice());
     }
+    assert!(rt; space.is_out(&total) && space.is_out(&out));
+    let numbers = space.numbers(alloc, &total)?;
+    assert_eq!(rt;
+        numbers.as_slice(),
+        [2, 18_446_744_069_414_584_319].as_slice()
+    );
+    let sums = space.sum_numbers(alloc, &total, &out)?;
+    assert_eq!(rt; sums.as_slice(), [3, 18_446_744_069_414_584_318].as_slice());
     let modulus = [0, 0, 0, 0, 0, 0, 0, 0, 1, 0, 0, 0, 255, 255, 255, 255];
     assert!(rt; !space.is_out(&modulus) && !space.is_out(&out[1..]) && !space.is_out(&[0; 17]));
     Ok(())

@@ -132,7 +132,7 @@ impl Vdaf for Toy {
     }
 
     fn answer(&self, alloc: Global, leader: &[u8], helper: &[u8]) -> Result<Answer, AllocError> {
-        let total = the_space().sum(alloc, leader, helper)?;
-        Ok(Answer::Sum(number(&total)))
+        let numbers = the_space().sum_numbers(alloc, leader, helper)?;
+        Ok(Answer::Sum(numbers[0]))
     }
 }

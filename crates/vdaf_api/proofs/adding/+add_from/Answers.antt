@@ -1,4 +1,4 @@
-use Rattle.std.proofs.Common.{◌≡◌, ◌+◌, ◌-◌, ◌*◌, ◌%◌, ◌<◌, ◌≤◌, ℕ, List, [], ◌∷◌, ◌++◌, Option, Some, length, take, drop, refl, ap, sym, ◌∙◌, arith, length-take}
+use Rattle.std.proofs.Common.{◌≡◌, ◌+◌, ◌-◌, ◌%◌, ◌<◌, ◌≤◌, ℕ, List, [], ◌∷◌, ◌++◌, Some, length, take, drop, ap, sym, ◌∙◌, arith, length-take}
 use Rattle.field_laws.specs.Bytes.{low_bytes, from_low}
 use Rattle.vdaf_api.specs.Vectors.{spelled, vector_of, IsVector}
 use Rattle.field_laws.specs.Vector.{add_each}

@@ -1,4 +1,4 @@
-use Rattle.std.proofs.Common.{rules, ◌≡◌, ◌+◌, ◌-◌, ◌<◌, ◌≤◌, ◌/◌, ◌%◌, ℕ, suc, zero, refl, ap, sym, ◌∙◌, List, [], ◌∷◌, ◌++◌, length, arith, slice_set}
+use Rattle.std.proofs.Common.{◌≡◌, ◌-◌, ◌<◌, ◌/◌, ◌%◌, ℕ, refl, ap, sym, ◌∙◌, List, [], ◌∷◌, ◌++◌, length, arith, slice_set}
 use Rattle.field_laws.specs.Bytes.{low_bytes}
 use Rattle.vdaf_api.specs.Spelled.{low_bytes-none}
 use Rattle.field_laws.proofs.Spelling.{low_bytes-step}

@@ -1,4 +1,4 @@
-use Rattle.std.proofs.Common.{◌≡◌, ℕ, suc, ◌+◌, ◌-◌, ◌*◌, ◌<◌, ◌≤◌, ap, ◌∙◌, sym, arith, refl, drop, length, get_or}
+use Rattle.std.proofs.Common.{◌≡◌, ℕ, suc, ◌+◌, ◌-◌, ◌*◌, ap, ◌∙◌, sym, arith, drop, length}
 use Rattle.std.proofs.lemmas.List.{drop_all}
 use Rattle.field_laws.specs.Bytes.{from_low}
 use Rattle.field_laws.proofs.Spelling.{from_low-step, from_low-fits}

@@ -1,4 +1,4 @@
-use Rattle.std.proofs.Common.{ℕ, arith}
+use Rattle.std.proofs.Common.{arith}
 use Rattle.vdaf_api.specs.Vectors.{SpaceLaws}
 use Rattle.vdaf_api.specs.Spelled.{Spells, vector_of-back}
 use Rattle.vdaf_api.proofs.laws.lengths_are_bounded.Goals as goal

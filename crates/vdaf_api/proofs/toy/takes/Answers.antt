@@ -1,5 +1,5 @@
-use Rattle.std.proofs.Common.{◌≡◌, ◌≤◌, ◌++◌, take, drop, ℕ, List, [], ◌∷◌, length, sym, ap, ◌∙◌, arith, Bool, true, false, refl, subst}
-use Rattle.std.specs.Prelude.{◌&&◌, nat_eq}
+use Rattle.std.proofs.Common.{◌≡◌, sym, ap, ◌∙◌, true, subst}
+use Rattle.std.specs.Prelude.{◌&&◌}
 use Rattle.vdaf_api.specs.declared.space.Space.{Space}
 use Rattle.vdaf_api.specs.Vectors.{IsOut}
 use Rattle.vdaf_api.specs.Toy.{toy_space, is_empty, is_toy}

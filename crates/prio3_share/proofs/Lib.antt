@@ -1,0 +1,5 @@
+pub mod Elements
+pub mod Lengths
+pub mod ReadHalves
+pub mod Shared
+pub mod Added
