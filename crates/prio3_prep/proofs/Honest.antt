@@ -25,8 +25,10 @@ use Rattle.prio3_share.specs.Texts.{drawn_for, bytes_of, input_key, proof_key, w
 use Rattle.prio3_share.specs.Sharing.{has_joint, if_joint, joint_bytes, differences, joint_randomness, leader_part, helper_part, whole_proof, shares_of, sharing, shard, encoding}
 use Rattle.prio3_share.specs.Preparing.{Half, Started, finish, half_of, own_part, point_of, verifier, started_at, start, out_of, accepts, combine, is_some_point, is_fair}
 use Rattle.prio3_share.specs.Functions.{functions_of, space_of}
-use Rattle.prio3_prep.proofs.Elements.{bind-some, vector-bytes, length-differences, differences-add, numbers-add}
-use Rattle.prio3_prep.proofs.Steps.{length-key, length-part, length-if_joint, if_joint-same, if_joint-true, joint-same, start-is, leader_half-is, helper_half-is, combine-is, length-query, length-proof}
+use Rattle.prio3_share.proofs.Elements.{bind-some, vector-bytes, length-differences, differences-add, numbers-add}
+use Rattle.prio3_share.proofs.Lengths.{length-key, length-part, length-if_joint, if_joint-same, if_joint-true, joint-same, length-proof}
+use Rattle.prio3_prep.proofs.Deciding.{accepted}
+use Rattle.prio3_prep.proofs.Steps.{start-is, leader_half-is, helper_half-is, combine-is, length-query}
 
 module _ {F : Type 0} (b : Base F) (c : Shape F) (kind : ℕ) where
   -- what sharing drew
@@ -73,12 +75,6 @@ same_bytes : (bytes : List ℕ) (o : Option (List ℕ)) → when (bytes_eq bytes
 same_bytes bytes o = ap (λ t. when t o) ((bytes_eq-Decides bytes bytes).1 refl)
 
 module _ {F : Type 0} {b : Base F} (laws : BaseLaws b) (c : Shape F) (keeps : ShapeLaws b.ring c) (codes : EncodeLaws b.ring c) (kind : ℕ) where
-  pub accepted : (v : List F) → Accepts b.ring c v → accepts b c kind v ≡ true
-  accepted v a =
-      let one : b.number (slice_index_or v 0 b.ring.nought) ≡ b.number b.ring.nought = ap b.number a.0 in
-      let two : b.number (gadget b.ring c (take c.arity (drop 1 v))) ≡ b.number (slice_index_or v (c.arity + 1) b.ring.nought) = ap b.number a.1 in
-      grind (arith, nat_tests)
-
   some_point : (o : Option F) → is_some_point b c kind o ≡ true → (t : F) × (o ≡ Some t)
   some_point (Some t) e = (t, refl)
   some_point None e = absurd (cc)
@@ -134,7 +130,7 @@ module _ {F : Type 0} {b : Base F} (laws : BaseLaws b) (c : Shape F) (keeps : Sh
       let shared : add_polynomials b.ring p_l d.proof_helper ≡ proof_of b.ring b.half b.root c (add_polynomials b.ring x_l d.x_helper) d.wire_seeds =
       differences-add laws whole d.proof_helper (hw ∙ sym hph) ∙ ap (λ y. proof_of b.ring b.half b.root c y d.wire_seeds) (sym sum) in
       let valid : IsValid b.ring c (add_polynomials b.ring x_l d.x_helper) d.r = subst (λ y. IsValid b.ring c y d.r) (sym sum) (codes.encode-valid m x d.r enc hr) in
-      let decided : accepts b c kind (add_polynomials b.ring v w) ≡ true = accepted (add_polynomials b.ring v w) (complete laws.laws b.half b.root laws.halves laws.roots c keeps x_l d.x_helper p_l d.proof_helper d.wire_seeds d.r t hxl hxh hr hs shared valid) in
+      let decided : accepts b c kind (add_polynomials b.ring v w) ≡ true = accepted b c kind (add_polynomials b.ring v w) (complete laws.laws b.half b.root laws.halves laws.roots c keeps x_l d.x_helper p_l d.proof_helper d.wire_seeds d.r t hxl hxh hr hs shared valid) in
       let combined : combine b c kind (bytes_of b v ++ more) (bytes_of b w ++ other) ≡ Some (if_joint c (joint_seed kind more other)) =
       combine-is laws c kind v w more other (length-query laws c kind b.half x_l p_l d.r t) (length-query laws c kind b.half d.x_helper d.proof_helper d.r t)
       (length-if_joint c _ 16 (length-part b kind Leader id blind_l x_l)) (length-if_joint c _ 16 (length-part b kind Helper id blind_h d.x_helper)) decided in

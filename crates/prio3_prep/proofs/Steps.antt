@@ -1,4 +1,4 @@
--- Lemmas: lengths of what is drawn and made, and each step of preparing where its parts are in order.
+-- Lemmas: each step of preparing where its parts are in order.
 use Rattle.std.proofs.Common.{◌≡◌, ℕ, suc, ◌+◌, ◌-◌, ◌*◌, ◌^◌, ◌<◌, List, [], ◌∷◌, ◌++◌, length, take, drop, Bool, true, false, Option, Some, sym, ap, ◌∙◌, refl, arith, length-take, length-drop}
 use Rattle.std.specs.Prelude.{nat_eq, nat_lt, if◌then◌else◌}
 use Rattle.std.specs.Option.{option_and_then}
@@ -22,51 +22,9 @@ use Rattle.prio3_share.specs.declared.usage.Usage.TheVariants.{Keys, Part, Helpe
 use Rattle.prio3_share.specs.Texts.{role_byte, info, bytes_for, drawn_for, bytes_of, key, part, joint_seed}
 use Rattle.prio3_share.specs.Sharing.{has_joint, if_joint, joint_bytes, joint_randomness, whole_proof}
 use Rattle.prio3_share.specs.Preparing.{Half, elements_of, half_of, x_bytes, proof_bytes, verifier_bytes, left_part, right_part, point_of, started_at, start, accepts, verifier_of, combine}
-use Rattle.prio3_prep.proofs.Elements.{length-bytes, elements-bytes}
-
-pub length-stream : (seed rest : List ℕ) (n : ℕ) → length (stream seed rest n) ≡ n
-length-stream seed rest n = length-map-range_with_len (byte_at (cmac seed rest)) 0 n
-
-pub length-key : (kind : ℕ) (seed : List ℕ) (i : ℕ) → i < 5 → length (key kind seed i) ≡ 16
-length-key kind seed i h =
-    let whole : length (bytes_for kind seed Keys [] 80) ≡ 80 = length-stream seed (info kind Keys []) 80 in
-    omega (arith, length-take 16 (drop (16 * i) (bytes_for kind seed Keys [] 80)), length-drop (16 * i) (bytes_for kind seed Keys [] 80))
-
-pub length-part : {F : Type 0} (b : Base F) (kind : ℕ) (role : Role) (id blind : List ℕ) (x : List F) → length (part b kind role id blind x) ≡ 16
-length-part b kind role id blind x = length-stream blind (info kind Part (role_byte role ∷ (id ++ bytes_of b x))) 16
-
-module _ {F : Type 0} (c : Shape F) where
-  pub length-if_joint : (bytes : List ℕ) (n : ℕ) → length bytes ≡ n → length (if_joint c bytes) ≡ joint_bytes c n
-  length-if_joint bytes n e = go (has_joint c)
-    where
-      go : (j : Bool) → length {A = ℕ} (if j then bytes else []) ≡ (if j then n else 0)
-      go true = e
-      go false = refl
-
-  pub if_joint-same : (u v : List ℕ) → (has_joint c ≡ true → u ≡ v) → if_joint c u ≡ if_joint c v
-  if_joint-same u v same = go (has_joint c) refl
-    where
-      go : (j : Bool) → has_joint c ≡ j → if_joint c u ≡ if_joint c v
-      go true e = ap (if_joint c) (same e)
-      go false e = ap (λ j. if j then u else []) e ∙ sym (ap (λ j. if j then v else []) e)
-
-  pub if_joint-true : (u : List ℕ) → has_joint c ≡ true → if_joint c u ≡ u
-  if_joint-true u e = ap (λ j. if j then u else []) e
+use Rattle.prio3_share.proofs.Elements.{length-bytes, elements-bytes}
 
 module _ {F : Type 0} (b : Base F) (c : Shape F) (kind : ℕ) where
-  -- a drawing of nothing, where there is no joint randomness
-  pub joint-none : (left right : List ℕ) → has_joint c ≡ false → joint_randomness b c kind left right ≡ Some []
-  joint-none left right e =
-      let zero_len : c.joint_len ≡ 0 = (let t : nat_lt 0 c.joint_len ≡ false = e in grind (arith, nat_tests)) in
-      ap (λ n. drawn_for b kind (joint_seed kind left right) JointRandomness [] n) zero_len ∙ drawn-none b.residue b.modulus b.width _ _
-
-  pub joint-same : (left right mine other : List ℕ) → (has_joint c ≡ true → (mine ≡ left) × (other ≡ right)) → joint_randomness b c kind mine other ≡ joint_randomness b c kind left right
-  joint-same left right mine other same = go (has_joint c) refl
-    where
-      go : (j : Bool) → has_joint c ≡ j → joint_randomness b c kind mine other ≡ joint_randomness b c kind left right
-      go true e = ap (λ l. joint_randomness b c kind l other) (same e).0 ∙ ap (joint_randomness b c kind left) (same e).1
-      go false e = joint-none mine other e ∙ sym (joint-none left right e)
-
   -- init, where the length is right, the half reads, and both drawings have their values
   pub start-is : (role : Role) (verify id public input : List ℕ) (h : Half F) (r : List F) (t : F)
       → length public ≡ joint_bytes c 32 → half_of b c kind role input ≡ Some h
@@ -162,9 +120,3 @@ module _ {F : Type 0} {b : Base F} (laws : BaseLaws b) (c : Shape F) (kind : ℕ
       let ws : List F = wires_at b.ring b.half b.root c x p t in
       let size : length ws ≡ c.arity = length-map-range_with_len (λ j. eval b.ring (wire b.ring b.half b.root c x p j) t) 0 c.arity in
       ap suc (length-append ws (eval b.ring (drop c.arity p) t ∷ [])) ∙ (let e : suc (length ws + 1) ≡ c.arity + 2 = omega arith in e)
-
-  pub length-proof : ShapeLaws b.ring c → (x seeds : List F) → length seeds ≡ c.arity → length (whole_proof b c kind x seeds) ≡ proof_len c
-  length-proof keeps x seeds e =
-      let g : List F = gadget_polynomial b.ring b.half b.root c x seeds in
-      let size : length g ≡ 2 ^ (wire_log c.calls + 1) - 1 = length-gadget_polynomial laws.laws b.half b.root laws.halves laws.roots c keeps x seeds in
-      length-append seeds g ∙ (let n : length seeds + length g ≡ c.arity + (2 * (2 ^ wire_log c.calls - 1) + 1) = omega (arith, twice_order (wire_log c.calls)) in n)
