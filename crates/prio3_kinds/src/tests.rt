@@ -73,11 +73,22 @@ fn answered<V: Vdaf>(
         tag(&other),
     ];
     assert_eq!(rt; seen.as_slice(), tags.as_slice(), "measurement {m}");
+    counted(rt, alloc, v, &out, &other)
+}
+
+/// The answer of two out shares, the first of them added to noughts.
+fn counted<V: Vdaf>(
+    rt: &impl Abort,
+    alloc: Global,
+    v: &V,
+    out: &[u8],
+    other: &[u8],
+) -> Result<Answer, Fail> {
     let mut sum = v.zero(alloc)?;
-    assert!(rt; v.is_out(&sum) && v.is_out(&out));
-    v.add(&mut sum, &out);
-    assert!(rt; v.is_out(&sum) && v.is_out(&other));
-    let answer = v.answer(alloc, &sum, &other)?;
+    assert!(rt; v.is_out(&sum) && v.is_out(out));
+    v.add(&mut sum, out);
+    assert!(rt; v.is_out(&sum) && v.is_out(other));
+    let answer = v.answer(alloc, &sum, other)?;
     Ok(answer)
 }
 
