@@ -5,11 +5,15 @@ use dap_bytes::Id;
 use field_laws::Field;
 use field64::Field64;
 use flp_circuits::Count;
+use prio3_prep::State;
 use prio3_share::shard_input;
 use std::alloc::{AllocError, Global};
 use std::process::Abort;
 use std::test::Fail;
-use vdaf_api::{Answer, Bounds, Kind, Numbers, PrepFault, Role, ShardFault, Shares, Toy, Vdaf};
+use vdaf_api::{
+    Answer, Bounds, Collected, Kind, Numbers, PrepFault, Role, ShardFault, Shares, Step, Toy,
+    ToyPrep, Vdaf,
+};
 
 /// The identifier of every report here, and the seed.
 const ONE: Id = [0, 0, 0, 0, 0, 0, 0, 0, 0, 0, 0, 0, 0, 0, 0, 1];
@@ -298,4 +302,18 @@ fn the_toy_function_is_called_by_the_same_code(rt: HostRuntime) -> Result<(), Fa
     let answer = answered(&rt, alloc, &toy, 5, &tags)?;
     assert!(rt; answer == Answer::Sum(5));
     Ok(())
+}
+
+fn crosses_threads<T: Send + Sync>() {}
+
+#[test]
+fn functions_and_what_they_make_cross_threads(_rt: HostRuntime) {
+    crosses_threads::<Prio3>();
+    crosses_threads::<State>();
+    crosses_threads::<Toy>();
+    crosses_threads::<ToyPrep>();
+    crosses_threads::<Kind>();
+    crosses_threads::<Shares>();
+    crosses_threads::<Step>();
+    crosses_threads::<Collected>();
 }
