@@ -1,5 +1,5 @@
 -- Lemmas: faults handed on, and answers made of a call's clauses.
-use Rattle.std.proofs.Common.{◌≡◌, ℕ, List, Option, Some, None, Result, Ok, Err, IfOk, Vec, Global, sym, ap, ◌∙◌, subst}
+use Rattle.std.proofs.Common.{◌≡◌, ℕ, List, Option, Some, None, Result, Ok, Err, Vec, Global, sym, ap, ◌∙◌, subst}
 use Rattle.std.specs.Option.{option_and_then}
 use Rattle.vdaf_api.specs.declared.fault.PrepFault.{PrepFault}
 use Rattle.vdaf_api.specs.declared.fault.PrepFault.TheVariants.{Invalid, NoMemory}

@@ -1,14 +1,12 @@
 -- Lemmas: halves, starts and combinations where the code is cut.
-use Rattle.std.proofs.Common.{lit≤, ◌≡◌, ◌≢◌, ◌⊎◌, inl, inr, ℕ, ◌+◌, ◌*◌, ◌^◌, ◌≤◌, List, [], length, take, drop, Bool, true, false, Option, Some, None, sym, ap, ◌∙◌, refl, arith}
+use Rattle.std.proofs.Common.{◌≡◌, ◌≢◌, ◌⊎◌, inl, inr, ℕ, ◌+◌, ◌*◌, ◌≤◌, List, [], length, take, drop, Bool, true, false, Option, Some, None, sym, ap, ◌∙◌, refl, arith}
 use Rattle.std.specs.Prelude.{nat_eq, nat_lt, if◌then◌else◌, slice_index_or, IfSome}
 use Rattle.std.specs.Option.{option_and_then}
 use Rattle.std.proofs.lemmas.Bool.Decides.{nat_tests}
-use Rattle.std.proofs.Math.Nat.{mul-le-mul, pow-le-pow_right}
-use Rattle.field_laws.specs.Ring.{Ring}
+use Rattle.std.proofs.Math.Nat.{mul-le-mul}
 use Rattle.field_laws.specs.Polynomial.{add_polynomials}
-use Rattle.flp_circuits.specs.Shape.{Shape, ShapeLaws}
-use Rattle.flp_proof.specs.Proof.{wire_log, proof_len}
-use Rattle.flp_proof.proofs.Orders.{wire_log_fits}
+use Rattle.flp_circuits.specs.Shape.{Shape}
+use Rattle.flp_proof.specs.Proof.{proof_len}
 use Rattle.vdaf_api.specs.declared.role.Role.{Role}
 use Rattle.vdaf_api.specs.declared.role.Role.TheVariants.{Leader, Helper}
 use Rattle.vdaf_api.specs.Vectors.{when}
@@ -16,7 +14,7 @@ use Rattle.prio3_share.specs.Base.{Base}
 use Rattle.prio3_share.specs.declared.usage.Usage.TheVariants.{HelperInput, HelperProof, JointRandomness, QueryPoint}
 use Rattle.prio3_share.specs.Texts.{drawn_for, joint_seed}
 use Rattle.prio3_share.specs.Sharing.{has_joint, if_joint, joint_bytes, joint_randomness}
-use Rattle.prio3_share.specs.Preparing.{Half, Started, elements_of, half_of, x_bytes, proof_bytes, verifier_bytes, leader_part_for, helper_part_for, own_part, left_part, right_part, is_root, point_of, start, accepts, verifier_of, combine}
+use Rattle.prio3_share.specs.Preparing.{Half, Started, elements_of, half_of, x_bytes, proof_bytes, verifier_bytes, leader_part_for, helper_part_for, own_part, left_part, right_part, is_root, start, accepts, verifier_of, combine}
 use Rattle.prio3_prep.specs.States.{bytes_in}
 use Rattle.prio3_prep.specs.Parts.{half_from, begun, begun_at, after_half}
 use Rattle.prio3_share.proofs.Lengths.{joint-none}
@@ -153,13 +151,6 @@ test-true m n e = grind (arith, nat_tests)
 
 pub test-false : (m n : ℕ) → m ≢ n → nat_eq m n ≡ false
 test-false m n e = grind (arith, nat_tests)
-
--- a proof has few elements
-pub proof-few : {F : Type 0} {ring : Ring F} (c : Shape F) → ShapeLaws ring c → proof_len c ≤ 8192
-proof-few c keeps =
-    let few : wire_log c.calls ≤ 11 = (wire_log_fits c.calls keeps.few_calls).1 in
-    let power : 2 ^ wire_log c.calls ≤ 2 ^ 11 = pow-le-pow_right {n = 2} (lit≤ tt) few in
-    omega (arith, keeps.few_wires)
 
 pub few-bytes : (n w : ℕ) → n ≤ 8192 → w ≤ 16 → n * w ≤ 131072
 few-bytes n w hn hw = let m : n * w ≤ 8192 * 16 = mul-le-mul hn hw in omega arith

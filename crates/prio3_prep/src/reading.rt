@@ -13,7 +13,6 @@ use aes_cmac_prg::DrawFault;
 use field_laws::Field;
 use flp_circuits::Circuit;
 use flp_proof::proof_len;
-
 use prio3_share::{Usage, draw_for};
 use std::alloc::Global;
 use vdaf_api::{PrepFault, Role};
@@ -138,7 +137,14 @@ fn helper_half<C: Circuit>(
         Err(fault) => return Err(fault),
     };
     let proof_key = key_from(second);
-    let proof = match draw(alloc, kind, &proof_key, Usage::HelperProof, &[], proof_len(c)) {
+    let proof = match draw(
+        alloc,
+        kind,
+        &proof_key,
+        Usage::HelperProof,
+        &[],
+        proof_len(c),
+    ) {
         Ok(proof) => proof,
         Err(fault) => return Err(fault),
     };
@@ -166,7 +172,11 @@ pub(crate) fn half_for<C: Circuit>(
 }
 
 /// The verifier share in a prep share.
-pub(crate) fn read_verifier<C: Circuit>(alloc: Global, c: &C, share: &[u8]) -> Result<Vec<C::F>, PrepFault>
+pub(crate) fn read_verifier<C: Circuit>(
+    alloc: Global,
+    c: &C,
+    share: &[u8],
+) -> Result<Vec<C::F>, PrepFault>
     ensures { (kind : ℕ) → Begins (λ v. v.items) result (verifier_of (base_of C.F.ring C.F.half_of C.F.root_of C.F.number C.F.residue C.F.MODULUS C.F.WIDTH) (C.shape c.now) kind share.now) }
 {
     let n = c.arity() + 2;

@@ -63,7 +63,15 @@ fn at_point<C: Circuit>(
         Ok(point) => point,
         Err(fault) => return Err(fault),
     };
-    match query(alloc, c, C::F::half(), &half.x, &half.proof, randomness, point[0]) {
+    match query(
+        alloc,
+        c,
+        C::F::half(),
+        &half.x,
+        &half.proof,
+        randomness,
+        point[0],
+    ) {
         Ok(verifier) => match with_verifier(alloc, c, &half.x, &verifier, own, joint_seed) {
             Ok(prepared) => Ok(prepared),
             Err(_) => Err(PrepFault::NoMemory),
@@ -118,7 +126,14 @@ fn with_joint<C: Circuit>(
         Ok(seed) => seed,
         Err(_) => return Err(PrepFault::NoMemory),
     };
-    let randomness = match draw(alloc, kind, &seed, Usage::JointRandomness, &[], c.joint_len()) {
+    let randomness = match draw(
+        alloc,
+        kind,
+        &seed,
+        Usage::JointRandomness,
+        &[],
+        c.joint_len(),
+    ) {
         Ok(randomness) => randomness,
         Err(fault) => return Err(fault),
     };

@@ -1,10 +1,7 @@
-use Rattle.std.proofs.Common.{◌≡◌, ◌+◌, ◌≤◌, ℕ, List, Option, Some, None, length, drop, Bool, true, false, not, ap, sym, ◌∙◌}
+use Rattle.std.proofs.Common.{◌≡◌, Some, length, true, false, ap, sym, ◌∙◌}
 use Rattle.field_laws.specs.Polynomial.{add_polynomials}
-use Rattle.vdaf_api.specs.Vectors.{when}
 use Rattle.prio3_share.specs.Base.{BaseLaws, base_of}
-use Rattle.prio3_share.specs.Texts.{joint_seed}
-use Rattle.prio3_share.specs.Sharing.{if_joint}
-use Rattle.prio3_share.specs.Preparing.{accepts, combine, verifier_bytes, verifier_of}
+use Rattle.prio3_share.specs.Preparing.{accepts, combine, verifier_of}
 use Rattle.prio3_prep.proofs.Inversions.{verifier-len, verifier-room}
 use Rattle.prio3_prep.proofs.Answering.{prepares-fault}
 use Rattle.prio3_prep.proofs.Cuts.{combine-no_leader, combine-no_helper, combine-of}
@@ -59,7 +56,7 @@ returns-then-not-is_accepted g c =
     let b = base_of F.ring F.half_of F.root_of F.number F.residue F.MODULUS F.WIDTH in
     let shape = g.C.Circuit.shape c.args.c.now in
     let refused : accepts b shape c.args.kind (add_polynomials F.ring c.in-Ok.verifier.items c.in-Ok-read_verifier.verifier.items) ≡ false =
-      ap (λ w. accepts b shape c.args.kind (add_polynomials F.ring c.in-Ok.verifier.items w)) (sym c.deref.ensures.value) ∙ sym (c.is_accepted.ensures c.args.kind) ∙ c.if-not-is_accepted.true in
+    ap (λ w. accepts b shape c.args.kind (add_polynomials F.ring c.in-Ok.verifier.items w)) (sym c.deref.ensures.value) ∙ sym (c.is_accepted.ensures c.args.kind) ∙ c.if-not-is_accepted.true in
     combine-of b shape c.args.kind c.args.leader.now c.args.helper.now c.in-Ok.verifier.items c.in-Ok-read_verifier.verifier.items false (c.in-Ok.ensures c.args.kind) (c.in-Ok-read_verifier.ensures c.args.kind) refused
 
 pub returns-in-Ok-message_of : goal.returns-in-Ok-message_of
@@ -68,6 +65,6 @@ returns-in-Ok-message_of g c =
     let b = base_of F.ring F.half_of F.root_of F.number F.residue F.MODULUS F.WIDTH in
     let shape = g.C.Circuit.shape c.args.c.now in
     let accepted : accepts b shape c.args.kind (add_polynomials F.ring c.in-Ok.verifier.items c.in-Ok-read_verifier.verifier.items) ≡ true =
-      ap (λ w. accepts b shape c.args.kind (add_polynomials F.ring c.in-Ok.verifier.items w)) (sym c.deref.ensures.value) ∙ sym (c.is_accepted.ensures c.args.kind) ∙ c.if-not-is_accepted.false in
+    ap (λ w. accepts b shape c.args.kind (add_polynomials F.ring c.in-Ok.verifier.items w)) (sym c.deref.ensures.value) ∙ sym (c.is_accepted.ensures c.args.kind) ∙ c.if-not-is_accepted.false in
     combine-of b shape c.args.kind c.args.leader.now c.args.helper.now c.in-Ok.verifier.items c.in-Ok-read_verifier.verifier.items true (c.in-Ok.ensures c.args.kind) (c.in-Ok-read_verifier.ensures c.args.kind) accepted
     ∙ ap Some (sym c.in-Ok-message_of.ensures)

@@ -1,5 +1,4 @@
-use Rattle.std.proofs.Common.{◌≡◌, ◌≢◌, ◌⊎◌, ◌+◌, ◌-◌, ◌≤◌, [], ℕ, List, Option, Some, None, length, take, drop, Bool, true, false, ap, sym, ◌∙◌, arith}
-use Rattle.std.specs.Prelude.{nat_eq}
+use Rattle.std.proofs.Common.{◌≡◌, ◌+◌, [], ℕ, List, length, take, drop, ap, sym, ◌∙◌, arith}
 use Rattle.flp_proof.specs.Proof.{proof_len}
 use Rattle.vdaf_api.specs.declared.role.Role.TheVariants.{Helper}
 use Rattle.prio3_share.specs.Base.{base_of}
@@ -8,8 +7,9 @@ use Rattle.prio3_share.specs.Texts.{drawn_for}
 use Rattle.prio3_share.specs.Sharing.{joint_bytes}
 use Rattle.prio3_share.specs.Preparing.{half_of}
 use Rattle.prio3_prep.specs.States.{bytes_in}
+use Rattle.prio3_share.proofs.Lengths.{proof_len-few}
 use Rattle.prio3_prep.proofs.Answering.{faults-on}
-use Rattle.prio3_prep.proofs.Cuts.{helper_half, half-wrong, half-no_x, half-no_proof, half-is, blind-len, proof-few, test-true, test-false}
+use Rattle.prio3_prep.proofs.Cuts.{helper_half, half-wrong, half-no_x, half-no_proof, half-is, blind-len, test-true, test-false}
 use Rattle.prio3_prep.proofs.reading.helper_half.Goals as goal
 
 pub returns-then-input-joint_bytes : goal.returns-then-input-joint_bytes
@@ -34,7 +34,7 @@ returns-in-Err g c =
 
 pub draw-requires-2 : goal.draw-requires-2
 draw-requires-2 g c =
-    let few = proof-few (g.C.Circuit.shape c.args.c.now) (g.met.C.Circuit.laws c.args.c.now) in
+    let few = proof_len-few (g.met.C.Circuit.laws c.args.c.now) in
     omega (arith, few, c.proof_len.ensures)
 
 pub returns-in-Err-draw : goal.returns-in-Err-draw

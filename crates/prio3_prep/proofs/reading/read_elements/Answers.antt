@@ -24,15 +24,15 @@ loop-i-preserved g c =
     let front : c.split_at.result.0.now ≡ take w c.loop-i.rest.now = c.split_at.ensures.front ∙ ap (λ k. take k c.loop-i.rest.now) c.WIDTH.ensures in
     let back : c.split_at.result.1.now ≡ drop w c.loop-i.rest.now = c.split_at.ensures.back ∙ ap (λ k. drop k c.loop-i.rest.now) c.WIDTH.ensures in
     let is : element_of p w (take w c.loop-i.rest.now) ≡ Some (g.F.Field.number c.in-Some.element) =
-      ap (element_of p w) (sym front ∙ sym c.in-Some.ensures) ∙ element_of-low p w (g.F.Field.number c.in-Some.element) (g.met.F.Field.residues.below c.in-Some.element) g.met.F.Field.room in
+    ap (element_of p w) (sym front ∙ sym c.in-Some.ensures) ∙ element_of-low p w (g.F.Field.number c.in-Some.element) (g.met.F.Field.residues.below c.in-Some.element) g.met.F.Field.room in
     record {
       within = omega arith;
       left = row_less c.args.n c.loop-i.i w (length c.loop-i.rest.now) (length c.split_at.result.1.now) (omega arith) c.loop-i.invariant.left (omega (arith, c.split_at.ensures.back_len, c.WIDTH.ensures));
       value = c.loop-i.invariant.value
-        ∙ behind-step p w (c.args.n - c.loop-i.i) numbers c.loop-i.rest.now (g.F.Field.number c.in-Some.element) (omega arith) is
-        ∙ ap (λ k. behind (numbers ++ (g.F.Field.number c.in-Some.element ∷ [])) (vector_of p w k (drop w c.loop-i.rest.now))) (let e : c.args.n - c.loop-i.i - 1 ≡ c.args.n - (c.loop-i.i + 1) = omega arith in e)
-        ∙ ap (λ l. behind (numbers ++ (g.F.Field.number c.in-Some.element ∷ [])) (vector_of p w (c.args.n - (c.loop-i.i + 1)) l)) (sym back)
-        ∙ ap (λ l. behind l (vector_of p w (c.args.n - (c.loop-i.i + 1)) c.split_at.result.1.now)) (sym (ap (map g.F.Field.number) c.in-Ok.ensures.items ∙ map-append g.F.Field.number c.loop-i.elements.items (c.in-Some.element ∷ [])));
+          ∙ behind-step p w (c.args.n - c.loop-i.i) numbers c.loop-i.rest.now (g.F.Field.number c.in-Some.element) (omega arith) is
+          ∙ ap (λ k. behind (numbers ++ (g.F.Field.number c.in-Some.element ∷ [])) (vector_of p w k (drop w c.loop-i.rest.now))) (let e : c.args.n - c.loop-i.i - 1 ≡ c.args.n - (c.loop-i.i + 1) = omega arith in e)
+          ∙ ap (λ l. behind (numbers ++ (g.F.Field.number c.in-Some.element ∷ [])) (vector_of p w (c.args.n - (c.loop-i.i + 1)) l)) (sym back)
+          ∙ ap (λ l. behind l (vector_of p w (c.args.n - (c.loop-i.i + 1)) c.split_at.result.1.now)) (sym (ap (map g.F.Field.number) c.in-Ok.ensures.items ∙ map-append g.F.Field.number c.loop-i.elements.items (c.in-Some.element ∷ [])));
     }
 
 pub returns : goal.returns

@@ -1,4 +1,4 @@
-use Rattle.std.proofs.Common.{◌≡◌, ◌≢◌, ◌+◌, ◌*◌, ℕ, List, Option, Some, None, length, take, Bool, true, false, ap, sym, ◌∙◌}
+use Rattle.std.proofs.Common.{◌≡◌, ◌+◌, ◌*◌, ℕ, List, length, take, ap, sym, ◌∙◌}
 use Rattle.vdaf_api.specs.Vectors.{when}
 use Rattle.prio3_share.specs.Base.{base_of}
 use Rattle.prio3_share.specs.Sharing.{joint_bytes}

@@ -1,4 +1,4 @@
-use Rattle.std.proofs.Common.{◌≡◌, ◌≢◌, ◌++◌, ◌^◌, ◌<◌, ℕ, List, Option, Some, None, Ok, Err, length, Bool, true, false, ap, sym, ◌∙◌, arith}
+use Rattle.std.proofs.Common.{◌≡◌, ◌≢◌, ◌++◌, ◌^◌, Err, true, false, ap, sym, ◌∙◌, arith}
 use Rattle.std.proofs.lemmas.List.{get_or_default}
 use Rattle.std.specs.Prelude.{slice_index_or}
 use Rattle.field_laws.specs.Ring.{power}
@@ -38,9 +38,9 @@ returns-in-Ok-with_verifier g c =
     begun-is b shape c.args.kind c.args.key.now c.args.id.now c.args.half.now.x.items c.args.half.now.proof.items c.args.randomness.now c.args.own.now (bytes_in c.args.joint_seed) c.in-Ok.point.items t c.in-Ok.ensures.drawn at root
     ∙ started-same _ _ _ _ _ _
     (sym (c.in-Ok-with_verifier.ensures.share ∙ ap (λ v. bytes_of b v ++ c.args.own.now) (c.deref-in-Ok-query-2.ensures.value ∙ c.in-Ok-query.ensures.share
-      ∙ ap (λ o. query_of F.ring F.half_of F.root_of shape o c.deref.result.now c.deref-2.result.now c.args.randomness.now t) c.half.ensures
-      ∙ ap (λ x. query_of F.ring F.half_of F.root_of shape F.half_of x c.deref-2.result.now c.args.randomness.now t) c.deref.ensures.value
-      ∙ ap (λ p. query_of F.ring F.half_of F.root_of shape F.half_of c.args.half.now.x.items p c.args.randomness.now t) c.deref-2.ensures.value)))
+    ∙ ap (λ o. query_of F.ring F.half_of F.root_of shape o c.deref.result.now c.deref-2.result.now c.args.randomness.now t) c.half.ensures
+    ∙ ap (λ x. query_of F.ring F.half_of F.root_of shape F.half_of x c.deref-2.result.now c.args.randomness.now t) c.deref.ensures.value
+    ∙ ap (λ p. query_of F.ring F.half_of F.root_of shape F.half_of c.args.half.now.x.items p c.args.randomness.now t) c.deref-2.ensures.value)))
     (sym (c.in-Ok-with_verifier.ensures.out ∙ ap (λ x. bytes_of b (shape.truncate x)) c.deref-in-Ok-query.ensures.value))
     (sym (ap bytes_in c.in-Ok-with_verifier.ensures.seed))
 

@@ -1,10 +1,9 @@
-use Rattle.std.proofs.Common.{◌≡◌, ◌≢◌, ◌+◌, ◌≤◌, [], ℕ, List, Option, Some, None, length, Bool, true, false, ap, sym, ◌∙◌, arith}
+use Rattle.std.proofs.Common.{◌≡◌, length, true, ap, sym, ◌∙◌}
 use Rattle.std.specs.Prelude.{if◌then◌else◌}
 use Rattle.prio3_share.specs.Base.{BaseLaws, base_of}
 use Rattle.prio3_share.specs.Sharing.{has_joint, joint_bytes}
-use Rattle.prio3_share.specs.Preparing.{Half, half_of, start}
+use Rattle.prio3_share.specs.Preparing.{half_of, start}
 use Rattle.prio3_prep.specs.States.{bytes_in, held, started}
-use Rattle.prio3_prep.specs.Parts.{begun}
 use Rattle.prio3_prep.proofs.Inversions.{Sizes, half-sizes}
 use Rattle.prio3_prep.proofs.Answering.{faults-on, begins-on}
 use Rattle.prio3_prep.proofs.Cuts.{test-true, test-false, blind-size, joint-here, joint-absent, joint-some, joint-zero, start-wrong, start-no_half, start-after, after-plain}
@@ -70,7 +69,7 @@ returns-in-Some g c =
     let shape = g.C.Circuit.shape c.args.c.now in
     begins-on started c.with_joint.result _ (start b shape c.args.kind c.args.role c.args.key.now c.args.id.now c.args.public.now c.args.input.now)
     (sym (start-after b shape c.args.kind c.args.role c.args.key.now c.args.id.now c.args.public.now c.args.input.now (held c.in-Ok.half)
-      (test-true (length c.args.public.now) (joint_bytes shape 32) (c.if-public-joint_bytes.false ∙ c.joint_bytes.ensures)) c.in-Ok.ensures))
+    (test-true (length c.args.public.now) (joint_bytes shape 32) (c.if-public-joint_bytes.false ∙ c.joint_bytes.ensures)) c.in-Ok.ensures))
     c.with_joint.ensures
 
 pub at_point-requires-clause-input : goal.at_point-requires-clause-input
@@ -111,6 +110,6 @@ returns g c =
     let none : 0 ≡ length (bytes_in c.in-Ok.half.blind) = sym (ap (λ o. length (bytes_in o)) c.in-None.is) in
     begins-on started c.at_point.result _ (start b shape c.args.kind c.args.role c.args.key.now c.args.id.now c.args.public.now c.args.input.now)
     (sym (start-after b shape c.args.kind c.args.role c.args.key.now c.args.id.now c.args.public.now c.args.input.now (held c.in-Ok.half)
-      (test-true (length c.args.public.now) (joint_bytes shape 32) (c.if-public-joint_bytes.false ∙ c.joint_bytes.ensures)) c.in-Ok.ensures
-      ∙ after-plain b shape c.args.kind c.args.role c.args.key.now c.args.id.now c.args.public.now (held c.in-Ok.half) (joint-absent shape (none ∙ s.blind))))
+    (test-true (length c.args.public.now) (joint_bytes shape 32) (c.if-public-joint_bytes.false ∙ c.joint_bytes.ensures)) c.in-Ok.ensures
+    ∙ after-plain b shape c.args.kind c.args.role c.args.key.now c.args.id.now c.args.public.now (held c.in-Ok.half) (joint-absent shape (none ∙ s.blind))))
     c.at_point.ensures

@@ -1,8 +1,8 @@
-use Rattle.std.proofs.Common.{◌≡◌, ◌+◌, [], ℕ, List, Option, Some, None, length, ap, sym, ◌∙◌, arith}
+use Rattle.std.proofs.Common.{◌≡◌, [], ℕ, List, ap, sym, ◌∙◌}
 use Rattle.prio3_share.specs.Base.{base_of}
 use Rattle.prio3_share.specs.declared.usage.Usage.TheVariants.{JointRandomness}
-use Rattle.prio3_share.specs.Texts.{drawn_for, part, joint_seed}
-use Rattle.prio3_share.specs.Preparing.{Half, own_part, leader_part_for, helper_part_for}
+use Rattle.prio3_share.specs.Texts.{drawn_for, part}
+use Rattle.prio3_share.specs.Preparing.{own_part}
 use Rattle.prio3_prep.specs.States.{held, started}
 use Rattle.prio3_prep.specs.Parts.{begun, after_half}
 use Rattle.prio3_prep.proofs.Answering.{faults-on, begins-on}
@@ -31,5 +31,5 @@ returns g c =
     begins-on started c.at_point.result _ (after_half b shape kind c.args.role c.args.key.now c.args.id.now c.args.public.now h)
     (ap (λ r. begun b shape kind c.args.key.now c.args.id.now h.x h.proof r c.in-Ok.own c.in-Ok-seed_for.seed) c.deref-2.ensures.value
     ∙ sym (after-some b shape kind c.args.role c.args.key.now c.args.id.now c.args.public.now c.in-Ok.own c.in-Ok-seed_for.seed h c.in-Ok-draw.randomness.items c.requires.joint own c.in-Ok-seed_for.ensures
-      (ap (drawn_for b kind c.in-Ok-seed_for.seed JointRandomness []) (sym c.joint_len.ensures) ∙ c.in-Ok-draw.ensures.drawn)))
+    (ap (drawn_for b kind c.in-Ok-seed_for.seed JointRandomness []) (sym c.joint_len.ensures) ∙ c.in-Ok-draw.ensures.drawn)))
     c.at_point.ensures
