@@ -113,3 +113,19 @@ bucket_of-other kept name other start later b apart =
     go Less e = refl
     go Equal e = absurd (differ apart (batch_order-same (other, later) (name, start) e))
     go Greater e = refl
+
+-- a sum is an out share after a bucket was kept or wasn't
+pub kept-out : (s : Space) (r : Result (Unit {0}) BucketFault) (kept new : Kept) (name : List ℕ) (start : ℕ) (b : Bucket)
+    → OnOk r (new ≡ changed kept name start b) → OnErr r (new ≡ kept) → IsSum s b.sum → IsSum s (bucket_of kept name start).sum → IsSum s (bucket_of new name start).sum
+kept-out s (Ok done) kept new name start b ok err one old =
+    subst (λ (x : Bucket). IsSum s x.sum) (sym (ap (λ m. bucket_of m name start) ok ∙ bucket_of-changed kept name start b)) one
+kept-out s (Err fault) kept new name start b ok err one old = subst (λ (m : Kept). IsSum s (bucket_of m name start).sum) (sym err) old
+
+pub bucket_of-empty : (name : List ℕ) (start : ℕ) → bucket_of map.empty name start ≡ nothing
+bucket_of-empty name start = ap (λ o. unwrap_or o nothing) (map.get-empty batch_order (name, start))
+
+-- a change that keeps the sum
+pub kept-sum : {E : Type 0} (r : Result (Unit {0}) E) (kept new : Kept) (name : List ℕ) (start : ℕ) (b : Bucket)
+    → OnOk r (new ≡ changed kept name start b) → OnErr r (new ≡ kept) → b.sum ≡ (bucket_of kept name start).sum → (bucket_of new name start).sum ≡ (bucket_of kept name start).sum
+kept-sum (Ok done) kept new name start b ok err same = ap (λ (m : Kept). (bucket_of m name start).sum) ok ∙ ap (λ (x : Bucket). x.sum) (bucket_of-changed kept name start b) ∙ same
+kept-sum (Err fault) kept new name start b ok err same = ap (λ (m : Kept). (bucket_of m name start).sum) err

@@ -3,7 +3,7 @@
 ghost use Rattle.std.specs.Prelude.{◌≡◌, ◌≢◌, ◌^◌, ◌<◌, ◌++◌, ◌∷◌, [], IfOk, List, OnErr, OnOk, ℕ, true, false};
 ghost use Rattle.std.specs.FinMap as map;
 ghost use Rattle.vdaf_api.specs.Vectors.{IsOut};
-ghost use Rattle.batch_shards.specs.Bucket.{closed_for_good, count_of, sum_or_zero, with_rejected, with_report, IsSum, Opens};
+ghost use Rattle.batch_shards.specs.Bucket.{closed_for_good, count_of, nothing, sum_or_zero, with_rejected, with_report, IsSum, Opens};
 ghost use Rattle.batch_shards.specs.Batches.{bucket_of, changed};
 
 use crate::bucket::{Bucket, BucketFault};
@@ -36,7 +36,8 @@ impl Model for Buckets {
 impl Buckets {
     /// Buckets that hold nothing. It takes no memory.
     pub fn new(alloc: Global) -> Self
-        ensures { result ≡ map.empty }
+        ensures empty { result ≡ map.empty }
+        ensures holds_nothing { (name : List ℕ) (start : ℕ) → bucket_of result name start ≡ nothing }
     {
         Buckets {
             alloc,
@@ -78,6 +79,7 @@ impl Buckets {
         ensures closed { Opens result (bucket_of self.old name.now start).closed }
         ensures ok { OnOk result (self.new ≡ changed self.old name.now start (with_rejected (bucket_of self.old name.now start))) }
         ensures err { OnErr result (self.new ≡ self.old) }
+        ensures sum { (bucket_of self.new name.now start).sum ≡ (bucket_of self.old name.now start).sum }
     {
         if let Some(bucket) = self.buckets.get_mut(&(*name, start)) {
             return bucket.reject();
@@ -106,6 +108,7 @@ impl Buckets {
         ensures ok { OnOk result (self.new ≡ changed self.old name.now start (closed_for_good (bucket_of self.old name.now start))) }
         ensures again { (bucket_of self.old name.now start).closed ≡ true → self.new ≡ self.old }
         ensures err { OnErr result (self.new ≡ self.old) }
+        ensures sum { (bucket_of self.new name.now start).sum ≡ (bucket_of self.old name.now start).sum }
     {
         if let Some(bucket) = self.buckets.get_mut(&(*name, start)) {
             bucket.close();

@@ -1,8 +1,8 @@
 //! Changes of one batch.
 
-ghost use Rattle.std.specs.Prelude.{◌≡◌, ◌^◌, ◌<◌, IfOk, OnErr, OnOk};
+ghost use Rattle.std.specs.Prelude.{◌≡◌, ◌^◌, ◌<◌, IfOk, None, OnErr, OnOk, Some};
 ghost use Rattle.vdaf_api.specs.Vectors.{IsOut, plus, SpaceLaws};
-ghost use Rattle.batch_shards.specs.Bucket.{closed_for_good, count_of, nothing, sum_or_zero, with_rejected, with_report, IsSum, Opens};
+ghost use Rattle.batch_shards.specs.Bucket.{closed_for_good, count_of, nothing, sum_or_zero, sum_with, with_rejected, with_report, IsSum, Opens};
 
 use crate::bucket::{Bucket, BucketFault};
 use crate::count::Count;
@@ -45,12 +45,9 @@ impl Bucket {
         if self.closed {
             return Err(BucketFault::Closed);
         }
-        match self.sum.take() {
-            Some(sum) => self.sum = Some(added(space, sum, out)),
-            None => match out.to_vec(alloc) {
-                Ok(copy) => self.sum = Some(Bytes::new(copy)),
-                Err(_) => return Err(BucketFault::NoMemory),
-            },
+        match with_share(alloc, space, self.sum.take(), out) {
+            Ok(sum) => self.sum = Some(sum),
+            Err(_) => return Err(BucketFault::NoMemory),
         }
         self.reports = self.reports.saturating_add(1);
         self.checksum.add(id);
@@ -63,11 +60,11 @@ impl Bucket {
         ensures ok { OnOk result (self.new ≡ with_rejected self.old) }
         ensures err { OnErr result (self.new ≡ self.old) }
     {
-        if self.closed {
-            return Err(BucketFault::Closed);
+        if !self.closed {
+            self.rejected = self.rejected.saturating_add(1);
+            return Ok(());
         }
-        self.rejected = self.rejected.saturating_add(1);
-        Ok(())
+        Err(BucketFault::Closed)
     }
 
     /// The numbers, where they are below 2^32.
@@ -100,6 +97,26 @@ impl Bucket {
         ensures { self.new ≡ closed_for_good self.old }
     {
         self.closed = true;
+    }
+}
+
+/// A sum with one out share more. Where there was no sum it is a copy of the out share, which alone takes memory.
+fn with_share(
+    alloc: Global,
+    space: &Space,
+    sum: Option<Bytes>,
+    out: &[u8],
+) -> Result<Bytes, AllocError>
+    requires space { SpaceLaws space.now }
+    requires out { IsOut space.now out.now }
+    requires held { IsSum space.now sum }
+    ensures sum { IfOk result (λ total. sum_with space.now sum out.now ≡ Some total) }
+    ensures out { IfOk result (λ total. IsOut space.now total) }
+    ensures err { OnErr result (sum ≡ None) }
+{
+    match sum {
+        Some(sum) => Ok(added(space, sum, out)),
+        None => Ok(Bytes::new(out.to_vec(alloc)?)),
     }
 }
 

@@ -1,8 +1,9 @@
 use Rattle.std.proofs.Common.{◌≡◌, Err, sym, ap, ◌∙◌, subst}
+use Rattle.std.specs.FinMap as map
 use Rattle.batch_shards.specs.declared.bucket.Bucket.{Bucket}
 use Rattle.batch_shards.specs.Bucket.{with_report, nothing, IsSum, Opens}
-use Rattle.batch_shards.specs.Batches.{bucket_of, changed}
-use Rattle.batch_shards.proofs.Kept.{held, not_held, not_lent, written, rewritten, some-found, opens-new, on-ok, on-err}
+use Rattle.batch_shards.specs.Batches.{batch_order, bucket_of, changed}
+use Rattle.batch_shards.proofs.Kept.{held, not_held, not_lent, written, rewritten, some-found, opens-new, on-ok, on-err, bucket_of-changed, kept-out}
 use Rattle.batch_shards.proofs.buckets.Buckets.add.Goals as goal
 
 pub add-requires-clause-held : goal.add-requires-clause-held
@@ -64,3 +65,27 @@ returns-in-Err-clause-closed g c =
     let none : bucket_of c.args.self.now c.args.name.now c.args.start ≡ nothing =
     not_held c.self.inside.buckets.entries c.args.self.now c.args.name.now c.args.start c.self.view_is c.in_default.ensures.value in
     subst (λ (b : Bucket). Opens (Err c.in-Err.fault) b.closed) (c.new-bucket.ensures ∙ sym none) c.in-Err.ensures.closed
+
+pub returns-in-Some-clause-held_again : goal.returns-in-Some-clause-held_again
+returns-in-Some-clause-held_again g c =
+    let es = c.self.inside.buckets.entries in
+    let now = c.args.self.now in
+    let name = c.args.name.now in
+    let start = c.args.start in
+    let wrote = c.add.new.self in
+    let after = written es (c.get_mut.follows.lender wrote).entries now name start wrote c.self.view_is ((c.get_mut.follows.holds wrote).3 (some-found _ c.in-Some.bucket.now c.in-Some.ensures.value)).0 in
+    subst (λ (b : Bucket). IsSum (g.V.Vdaf.functions c.args.vdaf.now).space b.sum) (sym (ap (λ m. bucket_of m name start) after ∙ bucket_of-changed now name start wrote))
+    (subst (λ s. IsSum s wrote.sum) c.space-space.ensures c.add.ensures.held_again)
+
+pub returns-in-Ok-clause-held_again : goal.returns-in-Ok-clause-held_again
+returns-in-Ok-clause-held_again g c =
+    let space = (g.V.Vdaf.functions c.args.vdaf.now).space in
+    let now = c.args.self.now in
+    let name = c.args.name.now in
+    let start = c.args.start in
+    let before = map.from_entries {R = batch_order} c.get_mut.follows.lender-at-none.entries in
+    let same : before ≡ now = not_lent c.self.inside.buckets c.get_mut.follows.lender-at-none now c.get_mut.follows.holds-at-none c.self.view_is in
+    let none : bucket_of before name start ≡ nothing =
+    ap (λ m. bucket_of m name start) same ∙ not_held c.self.inside.buckets.entries now name start c.self.view_is c.in_default.ensures.value in
+    kept-out space c.keep.result before c.keep.new.self name start c.add-2.new.self c.keep.ensures.ok c.keep.ensures.err
+    (subst (λ s. IsSum s c.add-2.new.self.sum) c.space-space.ensures c.in-Ok.ensures.held_again) (subst (λ (b : Bucket). IsSum space b.sum) (sym none) tt)

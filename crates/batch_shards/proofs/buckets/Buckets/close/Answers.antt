@@ -1,8 +1,8 @@
-use Rattle.std.proofs.Common.{◌≡◌, true, sym, ap, ◌∙◌, subst}
+use Rattle.std.proofs.Common.{◌≡◌, Ok, true, sym, ap, ◌∙◌, refl, subst}
 use Rattle.batch_shards.specs.declared.bucket.Bucket.{Bucket}
 use Rattle.batch_shards.specs.Bucket.{closed_for_good, nothing}
 use Rattle.batch_shards.specs.Batches.{bucket_of, changed}
-use Rattle.batch_shards.proofs.Kept.{held, not_held, not_lent, not_closed, written, rewritten, some-found, closed_for_good-same}
+use Rattle.batch_shards.proofs.Kept.{held, not_held, not_lent, not_closed, written, rewritten, some-found, closed_for_good-same, kept-sum}
 use Rattle.batch_shards.proofs.buckets.Buckets.close.Goals as goal
 
 pub returns-in-Some-clause-ok : goal.returns-in-Some-clause-ok
@@ -42,3 +42,11 @@ pub returns-in-Ok-clause-again : goal.returns-in-Ok-clause-again
 returns-in-Ok-clause-again c closed =
     absurd (not_closed (bucket_of c.args.self.now c.args.name.now c.args.start)
     (not_held c.self.inside.buckets.entries c.args.self.now c.args.name.now c.args.start c.self.view_is c.in_default.ensures.value) closed)
+
+pub returns-in-Some-clause-sum : goal.returns-in-Some-clause-sum
+returns-in-Some-clause-sum c =
+    kept-sum {E = Unit {0}} (Ok tt) c.args.self.now _ c.args.name.now c.args.start (closed_for_good (bucket_of c.args.self.now c.args.name.now c.args.start)) (returns-in-Some-clause-ok c) tt refl
+
+pub returns-in-Ok-clause-sum : goal.returns-in-Ok-clause-sum
+returns-in-Ok-clause-sum c =
+    kept-sum {E = Unit {0}} (Ok tt) c.args.self.now c.keep.new.self c.args.name.now c.args.start (closed_for_good (bucket_of c.args.self.now c.args.name.now c.args.start)) (returns-in-Ok-clause-ok c) tt refl

@@ -1,8 +1,8 @@
-use Rattle.std.proofs.Common.{◌≡◌, Err, sym, ap, ◌∙◌, subst}
+use Rattle.std.proofs.Common.{◌≡◌, Err, sym, ap, ◌∙◌, refl, subst}
 use Rattle.batch_shards.specs.declared.bucket.Bucket.{Bucket}
 use Rattle.batch_shards.specs.Bucket.{with_rejected, nothing, Opens}
 use Rattle.batch_shards.specs.Batches.{bucket_of, changed}
-use Rattle.batch_shards.proofs.Kept.{held, not_held, not_lent, written, rewritten, some-found, opens-new, on-ok, on-err}
+use Rattle.batch_shards.proofs.Kept.{held, not_held, not_lent, written, rewritten, some-found, opens-new, on-ok, on-err, kept-sum}
 use Rattle.batch_shards.proofs.buckets.Buckets.reject.Goals as goal
 
 pub returns-in-Some-clause-closed : goal.returns-in-Some-clause-closed
@@ -50,3 +50,14 @@ returns-in-Err-clause-closed c =
     let none : bucket_of c.args.self.now c.args.name.now c.args.start ≡ nothing =
     not_held c.self.inside.buckets.entries c.args.self.now c.args.name.now c.args.start c.self.view_is c.in_default.ensures.value in
     subst (λ (b : Bucket). Opens (Err c.in-Err.fault) b.closed) (c.new-bucket.ensures ∙ sym none) c.in-Err.ensures.closed
+
+pub returns-in-Some-clause-sum : goal.returns-in-Some-clause-sum
+returns-in-Some-clause-sum c =
+    kept-sum c.reject.result c.args.self.now _ c.args.name.now c.args.start (with_rejected (bucket_of c.args.self.now c.args.name.now c.args.start))
+    (returns-in-Some-clause-ok c) (returns-in-Some-clause-err c) refl
+
+pub returns-in-Ok-clause-sum : goal.returns-in-Ok-clause-sum
+returns-in-Ok-clause-sum c =
+    let now = c.args.self.now in
+    kept-sum c.keep.result now c.keep.new.self c.args.name.now c.args.start (with_rejected (bucket_of now c.args.name.now c.args.start)) (returns-in-Ok-clause-ok c)
+    (on-err c.keep.result (λ e. e ∙ not_lent c.self.inside.buckets c.get_mut.follows.lender-at-none now c.get_mut.follows.holds-at-none c.self.view_is) c.keep.ensures.err) refl

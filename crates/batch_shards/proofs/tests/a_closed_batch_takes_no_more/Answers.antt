@@ -1,0 +1,8 @@
+use Rattle.std.proofs.Common.{subst}
+use Rattle.batch_shards.proofs.tests.a_closed_batch_takes_no_more.Goals as goal
+
+pub add-requires-clause-held : goal.add-requires-clause-held
+add-requires-clause-held g c = rw (c.new-buckets.ensures.holds_nothing c.expect-name.result 0) tt
+
+pub add-requires-3-clause-held : goal.add-requires-3-clause-held
+add-requires-3-clause-held g c = ?
