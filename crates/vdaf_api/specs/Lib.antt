@@ -1,0 +1,12 @@
+pub mod Kind
+pub mod Vectors
+pub mod Spelled
+pub mod Sums
+pub mod Totals
+pub mod Functions
+pub mod Verdict
+pub mod Laws
+pub mod Verdicts
+pub mod Answered
+pub mod Toy
+pub mod ToyLaws

@@ -1,0 +1,60 @@
+-- The toy function: a number below 2 ^ 32 in two shares modulo 2 ^ 64.
+use Rattle.std.specs.Prelude.{◌≡◌, ℕ, ◌+◌, ◌-◌, ◌%◌, List, [], ◌∷◌, length, take, Bool, true, false, ◌&&◌, nat_eq, nat_lt, Option, Some, None}
+use Rattle.std.proofs.Common.{get_or}
+use Rattle.field_laws.specs.Bytes.{low_bytes, from_low}
+use Rattle.vdaf_api.specs.declared.space.Space.{Space}
+use Rattle.vdaf_api.specs.declared.role.Role.{Role}
+use Rattle.vdaf_api.specs.declared.answer.Answer.{Answer}
+use Rattle.vdaf_api.specs.declared.answer.Answer.TheVariants.{Sum}
+use Rattle.vdaf_api.specs.Functions.{Functions, Parts}
+use Rattle.vdaf_api.specs.Vectors.{when, vector}
+
+abbrev pub toy_space : Space
+toy_space = record { modulus = 18446744073709551616; width = 8; size = 1 }
+
+abbrev pub is_empty : List ℕ → Bool
+is_empty bytes = nat_eq (length bytes) 0
+
+abbrev pub some_vector : Option (List ℕ) → Bool
+some_vector (Some xs) = true
+some_vector None = false
+
+-- whether the bytes are an out share
+unfoldable pub is_toy : List ℕ → Bool
+is_toy bytes = some_vector (vector toy_space bytes)
+
+abbrev pub toy_helper : List ℕ → ℕ
+toy_helper seed = from_low (take 8 seed) % 18446744073709551616
+
+abbrev pub toy_leader : ℕ → List ℕ → ℕ
+toy_leader m seed = (m + (18446744073709551616 - toy_helper seed)) % 18446744073709551616
+
+unfoldable pub toy_shard : List ℕ → ℕ → List ℕ → Option Parts
+toy_shard id m seed = when (nat_lt m 4294967296) (Some (record { public = []; leader = low_bytes 8 (toy_leader m seed); helper = low_bytes 8 (toy_helper seed) }))
+
+unfoldable pub toy_share : Role → List ℕ → List ℕ → List ℕ → List ℕ → Option (List ℕ)
+toy_share role key id public input = when (is_empty public && is_toy input) (Some [])
+
+unfoldable pub toy_combine : List ℕ → List ℕ → Option (List ℕ)
+toy_combine leader helper = when (is_empty leader && is_empty helper) (Some [])
+
+unfoldable pub toy_finish : List ℕ → List ℕ → Option (List ℕ)
+toy_finish out message = when (is_empty message) (Some out)
+
+unfoldable pub toy_out : Role → List ℕ → List ℕ → List ℕ → List ℕ → List ℕ → Option (List ℕ)
+toy_out role key id public input message = when (is_empty public && is_toy input) (toy_finish input message)
+
+unfoldable pub toy_encoding : ℕ → Option (List ℕ)
+toy_encoding m = when (nat_lt m 4294967296) (Some (m ∷ []))
+
+abbrev pub toy_functions : Functions
+toy_functions = record {
+  space = toy_space;
+  shard = toy_shard;
+  encoding = toy_encoding;
+  share = toy_share;
+  combine = toy_combine;
+  out = toy_out;
+  is_fair = λ key id. true;
+  answer = λ v. Sum (get_or v 0 0);
+}

@@ -1,0 +1,33 @@
+//! Measurement functions with two shares, as every layer above sees them: what a task measures, and the trait [`Vdaf`]
+//! of the calls that shard a measurement, prepare both halves of a report, and add and answer out shares. All of them
+//! speak of bytes. [`Space`] adds out shares for every function alike, and [`Toy`] is a plain function for tests.
+#![tactic(auto)]
+
+mod adding;
+mod answer;
+mod bounds;
+mod fault;
+mod kind;
+mod laws;
+mod numbers;
+mod role;
+mod shares;
+mod space;
+mod step;
+mod toy;
+mod vdaf;
+
+pub use answer::{Answer, Collected};
+pub use bounds::Bounds;
+pub use fault::{PrepFault, ShardFault};
+pub use kind::Kind;
+pub use laws::{
+    honest_reports_are_counted, lengths_are_bounded, out_shares_add_to_contents, sums_are_answered,
+};
+pub use numbers::Numbers;
+pub use role::Role;
+pub use shares::Shares;
+pub use space::Space;
+pub use step::Step;
+pub use toy::{Toy, ToyPrep};
+pub use vdaf::Vdaf;
