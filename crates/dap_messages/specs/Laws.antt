@@ -43,7 +43,7 @@ pub bind_ok : {A B : Type 0} (r : Result A ℕ) (f : A → Result B ℕ) (y : B)
 bind_ok (Ok x) f y e = (x, refl, e)
 bind_ok (Err d) f y e = absurd cc
 
-abbrev done : {A : Type 0} → A → Result A ℕ
+abbrev pub done : {A : Type 0} → A → Result A ℕ
 done x = Ok x
 
 pub ok_is : {A : Type 0} (x y : A) → done x ≡ done y → x ≡ y
@@ -63,13 +63,13 @@ and_parts false b e = absurd cc
 pub both_true : (a b : Bool) → a ≡ true → b ≡ true → (a && b) ≡ true
 both_true a b p q = rw (p, q) refl
 
-if_some : {A : Type 0} (b : Bool) (x y : A) → cond b (Some x) None ≡ Some y → (b ≡ true) × (x ≡ y)
+pub if_some : {A : Type 0} (b : Bool) (x y : A) → cond b (Some x) None ≡ Some y → (b ≡ true) × (x ≡ y)
 if_some true x y e = (refl, cc)
 if_some false x y e = absurd cc
 
 -- ---- places
 
-input_stays : (r : Reading) (text : List ℕ) (s : Reading) → IsInput r → Takes r text s → IsInput s
+pub input_stays : (r : Reading) (text : List ℕ) (s : Reading) → IsInput r → Takes r text s → IsInput s
 input_stays r text s h t = subst IsInput (sym t.moved) h
 
 pub Takes-then : (a : Reading) (x : List ℕ) (b : Reading) (y : List ℕ) (c : Reading) → Takes a x b → Takes b y c → Takes a (x ++ y) c
@@ -80,7 +80,7 @@ Takes-then a x b y c p q =
       moved = q.moved ∙ ap (further (length y)) p.moved ∙ ap (λ (n : ℕ). let s : Reading = record { input = a.input; place = n } in s) places;
     }
 
-Takes-nothing : (a : Reading) → Takes a [] a
+pub Takes-nothing : (a : Reading) → Takes a [] a
 Takes-nothing a =
     record { rest = refl; moved = ap (λ (n : ℕ). let s : Reading = record { input = a.input; place = n } in s) (omega arith) }
 
@@ -88,7 +88,7 @@ pub rest_further : (r : Reading) (text rest : List ℕ) → rest_of r ≡ text +
 rest_further r text rest e =
     sym (drop-drop (length text) r.place r.input) ∙ ap (drop (length text)) e ∙ drop_at text rest (length text) refl
 
-further-then : (r : Reading) (x y : List ℕ) → further (length y) (further (length x) r) ≡ further (length (x ++ y)) r
+pub further-then : (r : Reading) (x y : List ℕ) → further (length y) (further (length x) r) ≡ further (length (x ++ y)) r
 further-then r x y =
     let places : (r.place + length x) + length y ≡ r.place + length (x ++ y) = omega (arith, length-append x y) in
     ap (λ (n : ℕ). let s : Reading = record { input = r.input; place = n } in s) places
@@ -126,13 +126,13 @@ first_ok : (text : List ℕ) (b : ℕ) → slice_get text 0 ≡ Some b → (rest
 first_ok [] b e = absurd cc
 first_ok (c ∷ rest) b e = (rest, ap (λ (d : ℕ). d ∷ rest) (some_is c b e))
 
-takes_first : (r : Reading) (b : ℕ) → slice_get (rest_of r) 0 ≡ Some b → Takes r (b ∷ []) (past 1 r)
+pub takes_first : (r : Reading) (b : ℕ) → slice_get (rest_of r) 0 ≡ Some b → Takes r (b ∷ []) (past 1 r)
 takes_first r b e =
     let f = first_ok (rest_of r) b e in
     let n = next_again r (b ∷ []) f.0 1 refl f.1 in
     (takes_next 1 r (b ∷ []) n.0).0
 
-first_again : (r : Reading) (b : ℕ) (rest : List ℕ) → rest_of r ≡ b ∷ rest → (slice_get (rest_of r) 0 ≡ Some b) × (past 1 r ≡ further 1 r)
+pub first_again : (r : Reading) (b : ℕ) (rest : List ℕ) → rest_of r ≡ b ∷ rest → (slice_get (rest_of r) 0 ≡ Some b) × (past 1 r ≡ further 1 r)
 first_again r b rest e = (rw e refl, (next_again r (b ∷ []) rest 1 refl e).1)
 
 -- ---- fields
@@ -142,16 +142,16 @@ accepted_ok len r None y s e = absurd cc
 accepted_ok {B = B} len r (Some x) y s e =
     let p = ok_is (x, past len r) (y, s) e in (ap (λ (q : B × Reading). just q.0) p, ap (λ (q : B × Reading). q.1) p)
 
-field_ok : {A B : Type 0} (len : ℕ) (meaning : A → Option B) (r : Reading) (next : Option A) (y : B) (s : Reading) → field len meaning r next ≡ Ok (y, s) → (x : A) × (next ≡ Some x) × (meaning x ≡ Some y) × (past len r ≡ s)
+pub field_ok : {A B : Type 0} (len : ℕ) (meaning : A → Option B) (r : Reading) (next : Option A) (y : B) (s : Reading) → field len meaning r next ≡ Ok (y, s) → (x : A) × (next ≡ Some x) × (meaning x ≡ Some y) × (past len r ≡ s)
 field_ok len meaning r None y s e = absurd cc
 field_ok len meaning r (Some x) y s e =
     let a = accepted_ok len r (meaning x) y s e in (x, refl, a.0, a.1)
 
-field_again : {A B : Type 0} (len : ℕ) (meaning : A → Option B) (r : Reading) (next : Option A) (x : A) (y : B) (s : Reading) → next ≡ Some x → meaning x ≡ Some y → past len r ≡ s → field len meaning r next ≡ Ok (y, s)
+pub field_again : {A B : Type 0} (len : ℕ) (meaning : A → Option B) (r : Reading) (next : Option A) (x : A) (y : B) (s : Reading) → next ≡ Some x → meaning x ≡ Some y → past len r ≡ s → field len meaning r next ≡ Ok (y, s)
 field_again {B = B} len meaning r next x y s e m p =
     ap (field len meaning r) e ∙ ap (accepted len r) m ∙ ap (λ (q : Reading). let z : B × Reading = (y, q) in done z) p
 
-where_again : {A : Type 0} (test : A → Bool) (x : A) → test x ≡ true → where_holds test x ≡ Some x
+pub where_again : {A : Type 0} (test : A → Bool) (x : A) → test x ≡ true → where_holds test x ≡ Some x
 where_again test x e = rw e refl
 
 -- numbers of a width, as bytes and back

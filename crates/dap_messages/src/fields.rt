@@ -15,7 +15,7 @@ use std::alloc::{AllocError, Global};
 pub const LATEST_TIME: u64 = 999_999_999_999_999_999;
 
 /// The fault of a field whose bytes run out. The cursor goes to the input's end.
-pub(crate) fn cut_off(cursor: &mut Cursor<'_>) -> Form
+pub fn cut_off(cursor: &mut Cursor<'_>) -> Form
     ensures { result.at ≡ length cursor.old.input }
 {
     let left = cursor.rest().len();
