@@ -1,6 +1,6 @@
 -- Lemmas: the vector of a count's or a sum's measurement is the measurement itself, and that of a histogram's has 1 in
 -- its bucket.
-use Rattle.std.proofs.Common.{◌≡◌, ℕ, zero, suc, ◌+◌, ◌-◌, ◌*◌, ◌/◌, ◌%◌, ◌^◌, ◌<◌, ◌≤◌, List, [], ◌∷◌, length, map, get_or, Bool, true, false, Option, Some, None, sym, ap, ◌∙◌, refl, arith, lit≤, le_trans}
+use Rattle.std.proofs.Common.{◌≡◌, ℕ, zero, suc, ◌+◌, ◌*◌, ◌/◌, ◌%◌, ◌^◌, ◌<◌, ◌≤◌, List, [], ◌∷◌, length, map, Bool, true, false, Some, None, sym, ap, ◌∙◌, refl, arith, lit≤, le_trans}
 use Rattle.std.specs.Prelude.{nat_eq, nat_lt, if◌then◌else◌}
 use Rattle.std.specs.List.{range_with_len}
 use Rattle.std.specs.Option.{option_and_then}
@@ -8,9 +8,8 @@ use Rattle.std.proofs.Math.Nat.{pow-suc, pow-le-pow_right, mod-eq_of_lt, mul-add
 use Rattle.std.proofs.lemmas.Nat.{mod-mul-add, pow_pos}
 use Rattle.std.proofs.lemmas.Bool.Decides.{nat_tests}
 use Rattle.std.proofs.lemmas.List.FromFn.{get_or-map-range_with_len}
-use Rattle.field_laws.specs.Ring.{Ring, RingLaws, power}
+use Rattle.field_laws.specs.Ring.{Ring, power}
 use Rattle.field_laws.specs.Sums.{sum_to}
-use Rattle.field_laws.specs.Residues.{Residues, residue_ring}
 use Rattle.field_laws.proofs.Modulo.{residue-add, residue-mul, number-small}
 use Rattle.field_laws.proofs.Sums.{sum_same}
 use Rattle.flp_circuits.specs.Kinds.{bucket, bit, binary, number_of, weighted, count_shape, sum_shape, histogram_shape}

@@ -1,5 +1,5 @@
 -- Lemmas: each kind's function keeps the laws.
-use Rattle.std.proofs.Common.{lit≤, ◌≡◌, ℕ, ◌+◌, ◌-◌, ◌*◌, ◌^◌, ◌<◌, ◌≤◌, List, length, arith}
+use Rattle.std.proofs.Common.{lit≤, ℕ, ◌+◌, ◌-◌, ◌*◌, ◌^◌, ◌≤◌, length, arith}
 use Rattle.std.proofs.Math.Nat.{pow-le-pow_right, mul-le-mul}
 use Rattle.field64.specs.Laws.{residues, ring_laws, root_laws, half_law, is_residue_ring}
 use Rattle.field64.specs.Element.{ring_of}

@@ -1,5 +1,4 @@
 -- The function that a value of Prio3 is.
-use Rattle.std.specs.Prelude.{ℕ}
 use Rattle.vdaf_api.specs.declared.kind.Kind.{Kind}
 use Rattle.vdaf_api.specs.declared.kind.Kind.TheVariants as kind
 use Rattle.vdaf_api.specs.Kind.{IsKind}
