@@ -1,5 +1,5 @@
 -- A batch as the list of its reports.
-use Rattle.std.proofs.Common.{◌≡◌, ℕ, ◌+◌, ◌-◌, ◌^◌, List, [], ◌∷◌, ◌++◌, length, map, Bool, Option, Some, None, sym, ap, ◌∙◌, refl, arith}
+use Rattle.std.proofs.Common.{◌≡◌, ℕ, ◌+◌, List, [], ◌∷◌, ◌++◌, length, Bool, Some, sym, ap, ◌∙◌, refl, arith}
 use Rattle.std.specs.Prelude.{min}
 use Rattle.std.proofs.lemmas.List.{map-append}
 use Rattle.std.proofs.Math.ListN.{length-append}
@@ -10,9 +10,8 @@ use Rattle.vdaf_api.specs.declared.space.Space.{Space}
 use Rattle.vdaf_api.specs.Vectors.{SpaceLaws, IsOut, plus, zero_share}
 use Rattle.vdaf_api.specs.Totals.{total}
 use Rattle.vdaf_api.specs.Sums.{plus_comm, plus_assoc, plus-zero}
-use Rattle.batch_shards.specs.declared.bucket.Bucket.{Bucket}
 use Rattle.batch_shards.specs.Bucket.{most, one_more, sum_with, sum_or_zero, with_report}
-use Rattle.batch_shards.specs.Reports.{Report, ids, outs, AreOuts, sum_of, tally}
+use Rattle.batch_shards.specs.Reports.{Report, ids, outs, sum_of, tally}
 
 one_more-min : (n : ℕ) → one_more (min n most) ≡ min (n + 1) most
 one_more-min n = omega arith

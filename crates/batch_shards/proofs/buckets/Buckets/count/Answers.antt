@@ -1,7 +1,6 @@
-use Rattle.std.proofs.Common.{◌≡◌, ◌^◌, ◌<◌, sym, ap, ◌∙◌, subst}
+use Rattle.std.proofs.Common.{◌^◌, ◌<◌, sym, ap, ◌∙◌, subst}
 use Rattle.batch_shards.specs.declared.bucket.Bucket.{Bucket}
 use Rattle.batch_shards.specs.Bucket.{count_of}
-use Rattle.batch_shards.specs.Batches.{bucket_of}
 use Rattle.batch_shards.proofs.Kept.{held, not_held}
 use Rattle.batch_shards.proofs.buckets.Buckets.count.Goals as goal
 
