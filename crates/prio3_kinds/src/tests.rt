@@ -89,9 +89,11 @@ fn counted<V: Vdaf>(
     other: &[u8],
 ) -> Result<Answer, Fail> {
     let mut sum = v.zero(alloc)?;
-    assert!(rt; v.is_out(&sum) && v.is_out(out));
+    assert!(rt; v.is_out(&sum));
+    assert!(rt; v.is_out(out));
     v.add(&mut sum, out);
-    assert!(rt; v.is_out(&sum) && v.is_out(other));
+    assert!(rt; v.is_out(&sum));
+    assert!(rt; v.is_out(other));
     let answer = v.answer(alloc, &sum, other)?;
     Ok(answer)
 }

@@ -41,12 +41,14 @@ fn prepared<V: Vdaf>(
     let out = v
         .finish(alloc, &leader, &message)
         .expect(rt, "the leader's out share");
-    assert!(rt; v.is_out(&sum) && v.is_out(&out));
+    assert!(rt; v.is_out(&sum));
+    assert!(rt; v.is_out(&out));
     v.add(&mut sum, &out);
     let other = v
         .finish(alloc, &helper, &message)
         .expect(rt, "the helper's out share");
-    assert!(rt; v.is_out(&sum) && v.is_out(&other));
+    assert!(rt; v.is_out(&sum));
+    assert!(rt; v.is_out(&other));
     let answer = v.answer(alloc, &sum, &other)?;
     Ok((sum, other, answer))
 }
