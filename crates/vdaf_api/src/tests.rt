@@ -5,6 +5,26 @@ use std::alloc::Global;
 use std::process::Abort;
 use std::test::Fail;
 
+/// Adds an out share to another.
+fn add<V: Vdaf>(rt: &impl Abort, v: &V, sum: &mut [u8], out: &[u8]) {
+    assert!(rt; v.is_out(sum));
+    assert!(rt; v.is_out(out));
+    v.add(sum, out);
+}
+
+/// The answer of two out shares.
+fn answer_of<V: Vdaf>(
+    rt: &impl Abort,
+    alloc: Global,
+    v: &V,
+    leader: &[u8],
+    helper: &[u8],
+) -> Result<Answer, Fail> {
+    assert!(rt; v.is_out(leader));
+    assert!(rt; v.is_out(helper));
+    Ok(v.answer(alloc, leader, helper)?)
+}
+
 /// The out share of each half and the answer of a report of one measurement, by the trait's calls alone.
 fn prepared<V: Vdaf>(
     rt: &impl Abort,
@@ -41,15 +61,11 @@ fn prepared<V: Vdaf>(
     let out = v
         .finish(alloc, &leader, &message)
         .expect(rt, "the leader's out share");
-    assert!(rt; v.is_out(&sum));
-    assert!(rt; v.is_out(&out));
-    v.add(&mut sum, &out);
+    add(rt, v, &mut sum, &out);
     let other = v
         .finish(alloc, &helper, &message)
         .expect(rt, "the helper's out share");
-    assert!(rt; v.is_out(&sum));
-    assert!(rt; v.is_out(&other));
-    let answer = v.answer(alloc, &sum, &other)?;
+    let answer = answer_of(rt, alloc, v, &sum, &other)?;
     Ok((sum, other, answer))
 }
 
