@@ -1,5 +1,6 @@
 -- The measurement function of each kind.
-use Rattle.std.specs.Prelude.{ℕ, List, slice_index_or}
+use Rattle.std.specs.Prelude.{ℕ, List, map, nat_eq, if◌then◌else◌, slice_index_or}
+use Rattle.std.specs.List.{range_with_len}
 use Rattle.field64.specs.declared.element.Field64.{Field64}
 use Rattle.field64.specs.Modulus.{modulus}
 use Rattle.field64.specs.Element.{ring_of, residue_of, number_of, root_of_log, half_element}
@@ -33,3 +34,7 @@ abbrev pub functions_of_kind : Kind → Functions
 functions_of_kind Count = functions_of base64 (count_shape ring_of) 0 (answer_of Count)
 functions_of_kind (Sum bits) = functions_of base128 (sum_shape wide.ring_of bits) 1 (answer_of (Sum bits))
 functions_of_kind (Histogram bounds) = functions_of base128 (histogram_shape wide.ring_of bounds) 2 (answer_of (Histogram bounds))
+
+-- 1 at a place, and 0 at the n - 1 others
+abbrev pub one_at : ℕ → ℕ → List ℕ
+one_at n place = map (λ i. if nat_eq i place then 1 else 0) (range_with_len 0 n)

@@ -3,6 +3,12 @@
 //! which is what the calls compute.
 #![tactic(auto)]
 
+mod laws;
+mod measuring;
 mod prio3;
 
+pub use laws::{honest_reports_count_themselves, measurements_have_their_vectors};
 pub use prio3::Prio3;
+
+#[cfg(test)]
+mod tests;

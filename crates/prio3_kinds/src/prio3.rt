@@ -4,7 +4,7 @@ use field64::Field64;
 use field128::Field128;
 use flp_circuits::{Count, Histogram, Sum};
 
-/// The measurement function of a kind.
+/// Prio3 of a kind, with two shares. Counts have the small field, sums and histograms the large one.
 #[derive(Drop)]
 pub enum Prio3 {
     Count(Count<Field64>),

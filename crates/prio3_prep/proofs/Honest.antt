@@ -1,15 +1,13 @@
 -- Lemmas: an honest fair report is ok, and its content is the truncated encoding.
-use Rattle.std.proofs.Common.{lit<, ◌≡◌, ℕ, ◌+◌, List, [], ◌++◌, length, map, take, drop, true, Option, Some, None, sym, ap, ◌∙◌, refl, arith, subst}
-use Rattle.std.specs.Prelude.{slice_index_or}
+use Rattle.std.proofs.Common.{lit<, ◌≡◌, ℕ, ◌+◌, List, ◌++◌, length, map, take, drop, true, Option, Some, None, sym, ap, ◌∙◌, refl, arith, subst}
 use Rattle.std.specs.Str.{bytes_eq}
 use Rattle.std.specs.Option.{option_and_then}
-use Rattle.std.proofs.lemmas.Bool.Decides.{nat_tests}
 use Rattle.std.proofs.lemmas.Slice.Eq.{bytes_eq-Decides}
 use Rattle.std.proofs.Math.ListN.{length-append}
 use Rattle.std.proofs.Math.Seq.{take-append_seam, drop-append_seam}
 use Rattle.field_laws.specs.Polynomial.{add_polynomials}
-use Rattle.flp_circuits.specs.Shape.{Shape, ShapeLaws, EncodeLaws, gadget, IsValid}
-use Rattle.flp_proof.specs.Proof.{proof_len, proof_of, Accepts}
+use Rattle.flp_circuits.specs.Shape.{Shape, ShapeLaws, EncodeLaws, IsValid}
+use Rattle.flp_proof.specs.Proof.{proof_len, proof_of}
 use Rattle.flp_proof.proofs.Complete.{complete}
 use Rattle.aes_cmac_prg.proofs.Drawing.{length-drawn}
 use Rattle.vdaf_api.specs.declared.role.Role.TheVariants.{Leader, Helper}
@@ -20,37 +18,18 @@ use Rattle.vdaf_api.specs.Verdict.{opened, verdict, numbers_of, ok}
 use Rattle.vdaf_api.specs.Sums.{vector-plus}
 use Rattle.vdaf_api.specs.Verdicts.{verdict-ok}
 use Rattle.prio3_share.specs.Base.{Base, BaseLaws}
-use Rattle.prio3_share.specs.declared.usage.Usage.TheVariants.{HelperInput, HelperProof, WireSeeds}
-use Rattle.prio3_share.specs.Texts.{drawn_for, bytes_of, input_key, proof_key, wire_key, leader_blind, helper_blind, part, joint_seed}
-use Rattle.prio3_share.specs.Sharing.{has_joint, if_joint, joint_bytes, differences, joint_randomness, leader_part, helper_part, whole_proof, shares_of, sharing, shard, encoding}
+use Rattle.prio3_share.specs.Texts.{bytes_of, input_key, proof_key, leader_blind, helper_blind, part, joint_seed}
+use Rattle.prio3_share.specs.Sharing.{has_joint, if_joint, joint_bytes, differences, joint_randomness, leader_part, helper_part, whole_proof, sharing, shard, encoding}
 use Rattle.prio3_share.specs.Preparing.{Half, Started, finish, half_of, own_part, point_of, verifier, started_at, start, out_of, accepts, combine, is_some_point, is_fair}
 use Rattle.prio3_share.specs.Functions.{functions_of, space_of}
-use Rattle.prio3_prep.proofs.Elements.{bind-some, vector-bytes, length-differences, differences-add, numbers-add}
-use Rattle.prio3_prep.proofs.Steps.{length-key, length-part, length-if_joint, if_joint-same, if_joint-true, joint-same, start-is, leader_half-is, helper_half-is, combine-is, length-query, length-proof}
+use Rattle.prio3_share.proofs.Elements.{bind-some, vector-bytes, length-differences, differences-add, numbers-add}
+use Rattle.prio3_share.proofs.Lengths.{length-key, length-part, length-if_joint, if_joint-same, if_joint-true, joint-same, length-proof}
+use Rattle.prio3_share.proofs.ReadHalves.{leader_half-is, helper_half-is}
+use Rattle.prio3_share.proofs.Added.{Drew, drew}
+use Rattle.prio3_prep.proofs.Deciding.{accepted}
+use Rattle.prio3_prep.proofs.Steps.{start-is, combine-is, length-query}
 
 module _ {F : Type 0} (b : Base F) (c : Shape F) (kind : ℕ) where
-  -- what sharing drew
-  pub record Drew (id : List ℕ) (x : List F) (seed : List ℕ) (p : Parts) : Type 0 where
-    pub x_helper : List F
-    pub r : List F
-    pub wire_seeds : List F
-    pub proof_helper : List F
-    pub input : drawn_for b kind (input_key kind seed) HelperInput [] c.input_len ≡ Some x_helper
-    pub joint : joint_randomness b c kind (leader_part b c kind id seed x x_helper) (helper_part b c kind id seed x_helper) ≡ Some r
-    pub wires : drawn_for b kind (wire_key kind seed) WireSeeds [] c.arity ≡ Some wire_seeds
-    pub proof : drawn_for b kind (proof_key kind seed) HelperProof [] (proof_len c) ≡ Some proof_helper
-    pub parts : p ≡ shares_of b c kind id seed x x_helper wire_seeds proof_helper
-
-  pub drew : (id : List ℕ) (x : List F) (seed : List ℕ) (p : Parts) → sharing b c kind id x seed ≡ Some p → Drew id x seed p
-  unfolding sharing
-  drew id x seed p e =
-      let one = bind-some (drawn_for b kind (input_key kind seed) HelperInput [] c.input_len) _ p e in
-      let two = bind-some (joint_randomness b c kind (leader_part b c kind id seed x one.0) (helper_part b c kind id seed one.0)) _ p one.2 in
-      let three = bind-some (drawn_for b kind (wire_key kind seed) WireSeeds [] c.arity) _ p two.2 in
-      let four = bind-some (drawn_for b kind (proof_key kind seed) HelperProof [] (proof_len c)) _ p three.2 in
-      let last : Some (shares_of b c kind id seed x one.0 three.0 four.0) ≡ Some p = four.2 in
-      record { x_helper = one.0; r = two.0; wire_seeds = three.0; proof_helper = four.0; input = one.1; joint = two.1; wires = three.1; proof = four.1; parts = cc }
-
   -- both sides' states, their message, and the halves that their out shares come from
   pub record BothStart (verify id : List ℕ) (x : List F) (p : Parts) : Type 0 where
     pub x_leader : List F
@@ -73,19 +52,13 @@ same_bytes : (bytes : List ℕ) (o : Option (List ℕ)) → when (bytes_eq bytes
 same_bytes bytes o = ap (λ t. when t o) ((bytes_eq-Decides bytes bytes).1 refl)
 
 module _ {F : Type 0} {b : Base F} (laws : BaseLaws b) (c : Shape F) (keeps : ShapeLaws b.ring c) (codes : EncodeLaws b.ring c) (kind : ℕ) where
-  pub accepted : (v : List F) → Accepts b.ring c v → accepts b c kind v ≡ true
-  accepted v a =
-      let one : b.number (slice_index_or v 0 b.ring.nought) ≡ b.number b.ring.nought = ap b.number a.0 in
-      let two : b.number (gadget b.ring c (take c.arity (drop 1 v))) ≡ b.number (slice_index_or v (c.arity + 1) b.ring.nought) = ap b.number a.1 in
-      grind (arith, nat_tests)
-
   some_point : (o : Option F) → is_some_point b c kind o ≡ true → (t : F) × (o ≡ Some t)
   some_point (Some t) e = (t, refl)
   some_point None e = absurd (cc)
 
   pub both_start : (verify id seed : List ℕ) (m : ℕ) (x : List F) (p : Parts) → c.encode m ≡ Some x → sharing b c kind id x seed ≡ Some p → is_fair b c kind verify id ≡ true → BothStart b c kind verify id x p
   both_start verify id seed m x p enc shares fair =
-      let d : Drew b c kind id x seed p = drew b c kind id x seed p shares in
+      let d : Drew b c kind id seed x p = drew b c kind id seed x p shares in
       let point = some_point (point_of b c kind verify id) fair in
       let t : F = point.0 in
       let hx : length x ≡ c.input_len = codes.length-encode m x enc in
@@ -134,7 +107,7 @@ module _ {F : Type 0} {b : Base F} (laws : BaseLaws b) (c : Shape F) (keeps : Sh
       let shared : add_polynomials b.ring p_l d.proof_helper ≡ proof_of b.ring b.half b.root c (add_polynomials b.ring x_l d.x_helper) d.wire_seeds =
       differences-add laws whole d.proof_helper (hw ∙ sym hph) ∙ ap (λ y. proof_of b.ring b.half b.root c y d.wire_seeds) (sym sum) in
       let valid : IsValid b.ring c (add_polynomials b.ring x_l d.x_helper) d.r = subst (λ y. IsValid b.ring c y d.r) (sym sum) (codes.encode-valid m x d.r enc hr) in
-      let decided : accepts b c kind (add_polynomials b.ring v w) ≡ true = accepted (add_polynomials b.ring v w) (complete laws.laws b.half b.root laws.halves laws.roots c keeps x_l d.x_helper p_l d.proof_helper d.wire_seeds d.r t hxl hxh hr hs shared valid) in
+      let decided : accepts b c kind (add_polynomials b.ring v w) ≡ true = accepted b c kind (add_polynomials b.ring v w) (complete laws.laws b.half b.root laws.halves laws.roots c keeps x_l d.x_helper p_l d.proof_helper d.wire_seeds d.r t hxl hxh hr hs shared valid) in
       let combined : combine b c kind (bytes_of b v ++ more) (bytes_of b w ++ other) ≡ Some (if_joint c (joint_seed kind more other)) =
       combine-is laws c kind v w more other (length-query laws c kind b.half x_l p_l d.r t) (length-query laws c kind b.half d.x_helper d.proof_helper d.r t)
       (length-if_joint c _ 16 (length-part b kind Leader id blind_l x_l)) (length-if_joint c _ 16 (length-part b kind Helper id blind_h d.x_helper)) decided in
@@ -144,7 +117,7 @@ module _ {F : Type 0} {b : Base F} (laws : BaseLaws b) (c : Shape F) (keeps : Sh
       let half_h : half_of b c kind Helper (k0 ++ (k1 ++ blind_h)) ≡ Some hh = helper_half-is laws c kind k0 k1 blind_h d.x_helper d.proof_helper (length-key kind seed 0 (lit< tt)) (length-key kind seed 1 (lit< tt)) (length-if_joint c k4 16 (length-key kind seed 4 (lit< tt))) d.input d.proof in
       let started_l : start b c kind Leader verify id public (bytes_of b x_l ++ (bytes_of b p_l ++ blind_l)) ≡ Some (started_at b c kind Leader id public hl d.r t) = start-is b c kind Leader verify id public _ hl d.r t public_len half_l joint_l point.1 in
       let started_h : start b c kind Helper verify id public (k0 ++ (k1 ++ blind_h)) ≡ Some (started_at b c kind Helper id public hh d.r t) = start-is b c kind Helper verify id public _ hh d.r t public_len half_h joint_h point.1 in
-      subst (BothStart b c kind verify id x) (sym d.parts) (record {
+      subst (BothStart b c kind verify id x) (sym d.is) (record {
         x_leader = x_l;
         x_helper = d.x_helper;
         leader = started_at b c kind Leader id public hl d.r t;

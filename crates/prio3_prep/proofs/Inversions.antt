@@ -1,5 +1,5 @@
 -- Lemmas: what a half, a start, a verifier share and a combination are made of, where they have a value.
-use Rattle.std.proofs.Common.{◌≡◌, ℕ, ◌+◌, List, [], length, take, drop, length-drop, true, Some, sym, ap, ◌∙◌, arith}
+use Rattle.std.proofs.Common.{◌≡◌, ℕ, ◌+◌, ◌≤◌, List, [], length, take, drop, length-drop, true, Some, sym, ap, ◌∙◌, arith}
 use Rattle.std.specs.Prelude.{nat_eq}
 use Rattle.std.proofs.lemmas.Bool.Decides.{nat_tests}
 use Rattle.flp_circuits.specs.Shape.{Shape}
@@ -13,7 +13,7 @@ use Rattle.prio3_share.specs.declared.usage.Usage.TheVariants.{HelperInput, Help
 use Rattle.prio3_share.specs.Texts.{drawn_for}
 use Rattle.prio3_share.specs.Sharing.{joint_bytes, joint_randomness}
 use Rattle.prio3_share.specs.Preparing.{Half, Started, elements_of, half_of, x_bytes, proof_bytes, verifier_bytes, left_part, right_part, point_of, started_at, start, verifier_of}
-use Rattle.prio3_prep.proofs.Elements.{bind-some, length-elements}
+use Rattle.prio3_share.proofs.Elements.{bind-some, length-elements}
 
 rest_len : (m n k : ℕ) (input : List ℕ) → length input ≡ m + (n + k) → length (drop n (drop m input)) ≡ k
 rest_len m n k input e = omega (arith, length-drop n (drop m input), length-drop m input)
@@ -75,3 +75,10 @@ module _ {F : Type 0} (b : Base F) (c : Shape F) (kind : ℕ) where
   verifier-len laws share v e =
       let k = when-some (nat_eq (length share) (verifier_bytes b c kind + joint_bytes c 16)) (elements_of b (c.arity + 2) (take (verifier_bytes b c kind) share)) v e in
       length-elements laws (c.arity + 2) (take (verifier_bytes b c kind) share) v k.1
+
+  pub verifier-room : (share : List ℕ) (v : List F) → verifier_of b c kind share ≡ Some v → verifier_bytes b c kind ≤ length share
+  verifier-room share v e =
+      let k = when-some (nat_eq (length share) (verifier_bytes b c kind + joint_bytes c 16)) (elements_of b (c.arity + 2) (take (verifier_bytes b c kind) share)) v e in
+      let t : nat_eq (length share) (verifier_bytes b c kind + joint_bytes c 16) ≡ true = k.0 in
+      let n : length share ≡ verifier_bytes b c kind + joint_bytes c 16 = grind (arith, nat_tests) in
+      omega arith

@@ -1,6 +1,10 @@
-pub mod Elements
 pub mod Steps
 pub mod Points
 pub mod Inversions
 pub mod Honest
 pub mod Measures
+pub mod Answering
+pub mod Cuts
+pub mod Vectors
+pub mod Deciding
+pub mod Lengths

@@ -1,6 +1,6 @@
 -- Lemmas: a circuit's measurement function keeps the laws.
-use Rattle.std.proofs.Common.{lit<, ◌≡◌, ℕ, ◌+◌, ◌*◌, ◌<◌, ◌≤◌, List, ◌++◌, length, map, drop, Bool, true, false, Some, sym, ap, ◌∙◌, arith, subst}
-use Rattle.std.specs.Prelude.{if◌then◌else◌, replicate}
+use Rattle.std.proofs.Common.{◌≡◌, ℕ, ◌+◌, ◌*◌, ◌<◌, ◌≤◌, List, ◌++◌, length, map, drop, Some, sym, ap, ◌∙◌, arith, subst}
+use Rattle.std.specs.Prelude.{replicate}
 use Rattle.std.specs.Str.{bytes_eq}
 use Rattle.std.specs.Option.{option_and_then}
 use Rattle.std.proofs.Math.ListN.{length-append}
@@ -8,10 +8,7 @@ use Rattle.std.proofs.Math.Nat.{mul-le-mul}
 use Rattle.std.proofs.lemmas.List.{length-map}
 use Rattle.field_laws.specs.Polynomial.{add_polynomials}
 use Rattle.flp_circuits.specs.Shape.{Shape, ShapeLaws, EncodeLaws}
-use Rattle.flp_proof.specs.Proof.{proof_len}
-use Rattle.aes_cmac_prg.proofs.Drawing.{length-drawn}
 use Rattle.vdaf_api.specs.declared.role.Role.{Role}
-use Rattle.vdaf_api.specs.declared.role.Role.TheVariants.{Leader, Helper}
 use Rattle.vdaf_api.specs.declared.answer.Answer.{Answer}
 use Rattle.vdaf_api.specs.Functions.{Parts}
 use Rattle.vdaf_api.specs.Vectors.{SpaceLaws, IsOut, Below, vector}
@@ -19,24 +16,18 @@ use Rattle.vdaf_api.specs.Spelled.{when-some}
 use Rattle.vdaf_api.specs.Laws.{FunctionLaws, PartsAreShort}
 use Rattle.prio3_share.specs.Base.{Base, BaseLaws}
 use Rattle.prio3_share.specs.declared.usage.Usage.TheVariants.{JointSeed}
-use Rattle.prio3_share.specs.Texts.{info, bytes_of, input_key, proof_key, leader_blind, helper_blind, joint_seed}
-use Rattle.prio3_share.specs.Sharing.{has_joint, if_joint, joint_bytes, differences, leader_part, helper_part, whole_proof, sharing, shard, encoding}
+use Rattle.prio3_share.specs.Texts.{info, bytes_of, joint_seed}
+use Rattle.prio3_share.specs.Sharing.{if_joint, sharing, shard, encoding}
 use Rattle.prio3_share.specs.Preparing.{Started, x_bytes, proof_bytes, verifier_bytes, own_part, verifier, start, share_of, finish, out_of, accepts, verifier_of, combine}
 use Rattle.prio3_share.specs.Functions.{functions_of, space_of}
-use Rattle.prio3_prep.proofs.Elements.{bind-some, length-bytes, vector-bytes, length-differences, below-numbers}
-use Rattle.prio3_prep.proofs.Steps.{length-stream, length-key, length-part, length-if_joint, length-query, length-proof}
+use Rattle.prio3_share.proofs.Elements.{bind-some, length-bytes, vector-bytes, below-numbers}
+use Rattle.prio3_share.proofs.Lengths.{length-stream, length-part}
+use Rattle.prio3_share.specs.Added.{HaveLengths}
+use Rattle.prio3_share.proofs.Added.{lengths}
+use Rattle.prio3_prep.proofs.Lengths.{joint-le, joint-short}
+use Rattle.prio3_prep.proofs.Steps.{length-query}
 use Rattle.prio3_prep.proofs.Inversions.{Sizes, half-sizes, Began, began}
-use Rattle.prio3_prep.proofs.Honest.{Drew, drew, honest}
-
-joint_le : {F : Type 0} (c : Shape F) (n : ℕ) → joint_bytes c n ≤ n
-joint_le c n = go (has_joint c)
-  where
-    go : (j : Bool) → (if j then n else 0) ≤ n
-    go true = omega arith
-    go false = omega arith
-
-short_joint : {F : Type 0} (c : Shape F) (bytes : List ℕ) (n : ℕ) → length bytes ≡ n → length (if_joint c bytes) ≤ n
-short_joint c bytes n e = let k : length (if_joint c bytes) ≡ joint_bytes c n = length-if_joint c bytes n e in omega (arith, joint_le c n)
+use Rattle.prio3_prep.proofs.Honest.{honest}
 
 module _ {F : Type 0} {b : Base F} (laws : BaseLaws b) (c : Shape F) (keeps : ShapeLaws b.ring c) (codes : EncodeLaws b.ring c) (kind : ℕ) where
   pub space_laws : SpaceLaws (space_of b c)
@@ -51,33 +42,8 @@ module _ {F : Type 0} {b : Base F} (laws : BaseLaws b) (c : Shape F) (keeps : Sh
 
   parts_short : (id seed : List ℕ) (x : List F) (p : Parts) → length x ≡ c.input_len → x_bytes b c kind + proof_bytes b c kind + 16 ≤ 131056 → sharing b c kind id x seed ≡ Some p → PartsAreShort p
   parts_short id seed x p hx small e =
-      let d : Drew b c kind id x seed p = drew b c kind id x seed p e in
-      let hxh : length d.x_helper ≡ c.input_len = length-drawn b.residue b.modulus b.width _ _ c.input_len d.x_helper d.input in
-      let hs : length d.wire_seeds ≡ c.arity = length-drawn b.residue b.modulus b.width _ _ c.arity d.wire_seeds d.wires in
-      let hph : length d.proof_helper ≡ proof_len c = length-drawn b.residue b.modulus b.width _ _ (proof_len c) d.proof_helper d.proof in
-      let whole : List F = whole_proof b c kind x d.wire_seeds in
-      let hw : length whole ≡ proof_len c = length-proof laws c kind keeps x d.wire_seeds hs in
-      let xb : List ℕ = bytes_of b (differences b.ring x d.x_helper) in
-      let pb : List ℕ = bytes_of b (differences b.ring whole d.proof_helper) in
-      let lx : length xb ≡ x_bytes b c kind = length-bytes laws _ ∙ ap (λ n. n * b.width) (length-differences laws x d.x_helper (hx ∙ sym hxh) ∙ hx) in
-      let lp : length pb ≡ proof_bytes b c kind = length-bytes laws _ ∙ ap (λ n. n * b.width) (length-differences laws whole d.proof_helper (hw ∙ sym hph) ∙ hw) in
-      let k3 : List ℕ = if_joint c (leader_blind kind seed) in
-      let k4 : List ℕ = if_joint c (helper_blind kind seed) in
-      let lk3 : length k3 ≤ 16 = short_joint c (leader_blind kind seed) 16 (length-key kind seed 3 (lit< tt)) in
-      let lk4 : length k4 ≤ 16 = short_joint c (helper_blind kind seed) 16 (length-key kind seed 4 (lit< tt)) in
-      let k0 : List ℕ = input_key kind seed in
-      let k1 : List ℕ = proof_key kind seed in
-      let lk0 : length k0 ≡ 16 = length-key kind seed 0 (lit< tt) in
-      let lk1 : length k1 ≡ 16 = length-key kind seed 1 (lit< tt) in
-      let lpart : List ℕ = leader_part b c kind id seed x d.x_helper in
-      let hpart : List ℕ = helper_part b c kind id seed d.x_helper in
-      let l1 : length lpart ≡ 16 = length-part b kind Leader id (leader_blind kind seed) (differences b.ring x d.x_helper) in
-      let l2 : length hpart ≡ 16 = length-part b kind Helper id (helper_blind kind seed) d.x_helper in
-      let pub_len : length (lpart ++ hpart) ≡ 32 = length-append lpart hpart ∙ (let e : length lpart + length hpart ≡ 32 = omega arith in e) in
-      let le_public : length (if_joint c (lpart ++ hpart)) ≤ 32 = short_joint c (lpart ++ hpart) 32 pub_len in
-      let le_leader : length (xb ++ (pb ++ k3)) ≤ 131056 = omega (arith, length-append xb (pb ++ k3), length-append pb k3) in
-      let le_helper : length (k0 ++ (k1 ++ k4)) ≤ 48 = omega (arith, length-append k0 (k1 ++ k4), length-append k1 k4) in
-      subst PartsAreShort (sym d.parts) (record { public = omega arith; leader = le_leader; helper = omega arith })
+      let have : HaveLengths b c kind p = lengths laws c keeps kind id seed x p hx e in
+      record { public = omega (arith, have.public, joint-le c 32); leader = omega (arith, have.leader, joint-le c 16); helper = omega (arith, have.helper, joint-le c 16) }
 
   share_short : (role : Role) (verify id public input share : List ℕ) → share_of b c kind role verify id public input ≡ Some share → length share ≤ 1024
   share_short role verify id public input share e =
@@ -88,7 +54,7 @@ module _ {F : Type 0} {b : Base F} (laws : BaseLaws b) (c : Shape F) (keeps : Sh
       let v : List F = verifier b c kind g.h g.r g.t in
       let own : List ℕ = own_part b c kind role id g.h in
       let lv : length (bytes_of b v) ≡ (c.arity + 2) * b.width = length-bytes laws v ∙ ap (λ n. n * b.width) (length-query laws c kind b.half g.h.x g.h.proof g.r g.t) in
-      let le : length (if_joint c own) ≤ 16 = short_joint c own 16 (length-part b kind role id g.h.blind g.h.x) in
+      let le : length (if_joint c own) ≤ 16 = joint-short c own 16 (length-part b kind role id g.h.blind g.h.x) in
       let few : (c.arity + 2) * b.width ≤ 4 * 16 = mul-le-mul (let a : c.arity + 2 ≤ 4 = omega (arith, keeps.few_wires) in a) laws.few_bytes in
       let whole : length share ≡ length (bytes_of b v ++ if_joint c own) = sym (ap length is) ∙ ap (λ (s : Started). length s.share) g.is in
       omega (arith, length-append (bytes_of b v) (if_joint c own))
@@ -103,7 +69,7 @@ module _ {F : Type 0} {b : Base F} (laws : BaseLaws b) (c : Shape F) (keeps : Sh
       let three = when-some (accepts b c kind (add_polynomials b.ring one.0 two.0)) (Some (if_joint c seed)) message two.2 in
       let some : Some (if_joint c seed) ≡ Some message = three.1 in
       let is : if_joint c seed ≡ message = cc in
-      let le : length (if_joint c seed) ≤ 16 = short_joint c seed 16 (length-stream (replicate 16 0) (info kind JointSeed parts) 16) in
+      let le : length (if_joint c seed) ≤ 16 = joint-short c seed 16 (length-stream (replicate 16 0) (info kind JointSeed parts) 16) in
       omega (arith, ap length is)
 
   out_is : (role : Role) (verify id public input message out : List ℕ) → out_of b c kind role verify id public input message ≡ Some out → IsOut (space_of b c) out

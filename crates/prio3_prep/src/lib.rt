@@ -3,6 +3,14 @@
 //! calls, and the laws of a circuit's measurement function, among them that an honest report is accepted.
 #![tactic(auto)]
 
+mod half;
+mod joining;
 mod laws;
+mod reading;
+mod starting;
+mod state;
 
+pub use joining::{combine, finish};
 pub use laws::{circuits_measure, honest_reports_are_accepted};
+pub use starting::init;
+pub use state::State;

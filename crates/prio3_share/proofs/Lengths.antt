@@ -1,5 +1,5 @@
 -- Lemmas: lengths of what is drawn and made, and what stands where there is no joint randomness.
-use Rattle.std.proofs.Common.{◌≡◌, ℕ, ◌+◌, ◌-◌, ◌*◌, ◌^◌, ◌<◌, ◌≤◌, lit<, List, [], ◌∷◌, ◌++◌, length, take, drop, Bool, true, false, Option, Some, sym, ap, ◌∙◌, refl, arith, length-take, length-drop}
+use Rattle.std.proofs.Common.{◌≡◌, ℕ, ◌+◌, ◌-◌, ◌*◌, ◌^◌, ◌<◌, ◌≤◌, lit<, List, [], ◌∷◌, ◌++◌, length, drop, Bool, true, false, Some, sym, ap, ◌∙◌, refl, arith, length-take, length-drop}
 use Rattle.std.specs.Prelude.{nat_lt, if◌then◌else◌, IfOk, Result, Ok, Err, Vec}
 use Rattle.std.specs.declared.alloc.Global.{Global}
 use Rattle.std.proofs.lemmas.Bool.Decides.{nat_tests}

@@ -2,3 +2,4 @@ pub mod Elements
 pub mod Lengths
 pub mod ReadHalves
 pub mod Shared
+pub mod Added

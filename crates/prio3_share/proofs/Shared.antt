@@ -1,5 +1,5 @@
 -- Lemmas: sharing step by step.
-use Rattle.std.proofs.Common.{◌≡◌, ℕ, List, [], length, map, Option, Some, None, ap, ◌∙◌, refl}
+use Rattle.std.proofs.Common.{◌≡◌, ℕ, List, [], map, Option, Some, None, ap, ◌∙◌, refl}
 use Rattle.std.specs.Prelude.{Result, Ok, Err}
 use Rattle.flp_circuits.specs.Shape.{Shape}
 use Rattle.flp_proof.specs.Proof.{proof_len}
@@ -10,7 +10,7 @@ use Rattle.vdaf_api.specs.Answered.{Shards, parts_of}
 use Rattle.vdaf_api.specs.Functions.{Parts}
 use Rattle.prio3_share.specs.Base.{Base}
 use Rattle.prio3_share.specs.Texts.{drawn_for, joint_seed, input_key, proof_key, wire_key}
-use Rattle.prio3_share.specs.Sharing.{joint_randomness, leader_part, helper_part, sharing, shard, encoding, shares_of, differences, whole_proof}
+use Rattle.prio3_share.specs.Sharing.{joint_randomness, leader_part, helper_part, sharing, shard, encoding, differences, whole_proof}
 use Rattle.prio3_share.specs.Splits.{Faults, Splits}
 use Rattle.prio3_share.specs.Steps.{Halved, keys_of, halved, proof_halved, left, right, report_of, sharing_with}
 use Rattle.prio3_share.specs.declared.keys.SeedKeys.{SeedKeys}

@@ -6,3 +6,4 @@ pub mod Functions
 pub mod Steps
 pub mod Splits
 pub mod Seen
+pub mod Added

@@ -1,5 +1,4 @@
 -- What the halves in the code are seen as.
-use Rattle.std.specs.Prelude.{List}
 use Rattle.prio3_share.specs.Steps.{Halved}
 use Rattle.prio3_share.specs.declared.halves.Halves.{Halves as Held}
 

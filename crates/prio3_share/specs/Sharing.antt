@@ -1,5 +1,5 @@
 -- Sharing: the two halves of a measurement's input and of its proof.
-use Rattle.std.specs.Prelude.{ℕ, ◌*◌, List, [], ◌++◌, map, Bool, nat_lt, if◌then◌else◌, Option, Some, None}
+use Rattle.std.specs.Prelude.{ℕ, List, [], ◌++◌, map, Bool, nat_lt, if◌then◌else◌, Option, Some}
 use Rattle.field_laws.specs.Ring.{Ring}
 use Rattle.field_laws.specs.Polynomial.{add_polynomials}
 use Rattle.flp_circuits.specs.Shape.{Shape}

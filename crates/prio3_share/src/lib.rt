@@ -7,6 +7,7 @@ mod based;
 mod halves;
 mod joint;
 mod keys;
+mod laws;
 mod report;
 mod sharing;
 mod splitting;
@@ -16,6 +17,7 @@ mod texts;
 mod usage;
 
 pub use based::Based;
+pub use laws::{halves_add_to_the_whole, shares_have_their_lengths};
 pub use sharing::{shard, shard_input};
 pub use streams::{draw_for, joint_seed_of, part_of};
 pub use texts::{info_text, push_elements};

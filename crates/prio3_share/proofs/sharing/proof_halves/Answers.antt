@@ -1,4 +1,4 @@
-use Rattle.std.proofs.Common.{◌≡◌, ◌≤◌, ℕ, [], length, Some, None, sym, ap, ◌∙◌, subst, arith}
+use Rattle.std.proofs.Common.{◌≡◌, ◌≤◌, ℕ, [], length, Some, sym, ap, ◌∙◌, subst, arith}
 use Rattle.flp_proof.specs.Proof.{proof_len}
 use Rattle.prio3_share.specs.Base.{base_of}
 use Rattle.prio3_share.specs.Texts.{drawn_for}

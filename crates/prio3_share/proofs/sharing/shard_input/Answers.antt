@@ -1,4 +1,4 @@
-use Rattle.std.proofs.Common.{◌≡◌, ℕ, sym, ap, ◌∙◌, subst}
+use Rattle.std.proofs.Common.{ℕ, sym, ap, ◌∙◌, subst}
 use Rattle.vdaf_api.specs.Answered.{parts_of}
 use Rattle.prio3_share.specs.Base.{base_of}
 use Rattle.prio3_share.specs.Splits.{Splits}

@@ -1,7 +1,7 @@
-use Rattle.std.proofs.Common.{◌≡◌, ◌++◌, ℕ, length, Some, sym, ap, ◌∙◌}
+use Rattle.std.proofs.Common.{◌≡◌, ℕ, length, Some, sym, ap, ◌∙◌}
 use Rattle.prio3_share.specs.Base.{base_of}
-use Rattle.prio3_share.specs.Sharing.{joint_randomness, if_joint}
-use Rattle.prio3_share.specs.Steps.{halved, proof_halved, left, right, report_of, sharing_with}
+use Rattle.prio3_share.specs.Sharing.{joint_randomness}
+use Rattle.prio3_share.specs.Steps.{halved, proof_halved, left, right, sharing_with}
 use Rattle.prio3_share.specs.Seen.{seen}
 use Rattle.prio3_share.specs.declared.usage.Usage.TheVariants.{HelperInput}
 use Rattle.prio3_share.proofs.Shared.{faults-on, with-no_input, with-no_joint, with-no_proof, with-all, parts-same}

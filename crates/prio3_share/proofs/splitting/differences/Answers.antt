@@ -1,4 +1,4 @@
-use Rattle.std.proofs.Common.{◌≡◌, ℕ, suc, ◌+◌, ◌∷◌, ◌++◌, [], take, sym, ap, ◌∙◌, arith}
+use Rattle.std.proofs.Common.{◌≡◌, ℕ, suc, ◌+◌, ◌∷◌, ◌++◌, [], take, ap, ◌∙◌, arith}
 use Rattle.prio3_share.specs.Sharing.{differences}
 use Rattle.prio3_share.proofs.Elements.{differences-nothing, differences-more}
 use Rattle.prio3_share.proofs.splitting.differences.Goals as goal

@@ -1,4 +1,4 @@
-use Rattle.std.proofs.Common.{◌≡◌, ◌++◌, ◌+◌, ap, ◌∙◌, arith}
+use Rattle.std.proofs.Common.{◌++◌, ap, ◌∙◌, arith}
 use Rattle.field_laws.specs.Bytes.{low_bytes}
 use Rattle.prio3_share.specs.Base.{base_of}
 use Rattle.prio3_share.proofs.Elements.{bytes-nothing, bytes-more}

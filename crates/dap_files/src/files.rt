@@ -1,0 +1,65 @@
+//! The system's files, read whole.
+
+ghost use Rattle.std.specs.Prelude.{◌≡◌, ◌≤◌, ℕ, None, length, IfOk};
+
+use dap_outside::{FileFault, MAX_READ};
+use std::alloc::Global;
+use std::fs;
+use std::io::Read;
+use std::rt::Files;
+
+/// The files that a runtime reaches, by their paths, with a count of its errors.
+#[derive(Drop)]
+pub struct DirFiles<'a, R: Files> {
+    runtime: &'a R,
+    faults: u64,
+}
+
+impl<'a, R: Files> DirFiles<'a, R> {
+    /// Counts errors from 0. It takes no memory.
+    pub fn new(runtime: &'a R) -> Self
+        ensures { result.faults ≡ 0 }
+    {
+        DirFiles { runtime, faults: 0 }
+    }
+
+    fn read_front(&self, alloc: Global, name: &str) -> Result<Vec<u8>, FileFault>
+        ensures { IfOk result (λ read. length read.items ≤ 1048577) }
+    {
+        let mut file = fs::open(self.runtime, name).map_err(|_| FileFault::Failed)?;
+        read_front(alloc, &mut file)
+    }
+}
+
+/// The first 1,048,577 bytes of a reader, or all where there are fewer.
+fn read_front<F: Read>(alloc: Global, file: &mut F) -> Result<Vec<u8>, FileFault>
+    ensures { IfOk result (λ read. length read.items ≤ 1048577) }
+{
+    let mut bytes = Vec::new(alloc);
+    let mut buf = [0; 4096];
+    while bytes.len() < MAX_READ {
+        let room = buf.len().min(MAX_READ - bytes.len());
+        let count = file.read(&mut buf[..room]).map_err(|_| FileFault::Failed)?;
+        if count == 0 {
+            break;
+        }
+        bytes
+            .extend_from_slice(&buf[..count])
+            .map_err(|_| FileFault::NoMemory)?;
+    }
+    Ok(bytes)
+}
+
+impl<'a, R: Files> dap_outside::Files for DirFiles<'a, R> {
+    ghost contents = { λ _ _. None };
+
+    ghost faults = { λ f. f.faults };
+
+    fn read_file(&mut self, alloc: Global, name: &str) -> Result<Vec<u8>, FileFault> {
+        let read = self.read_front(alloc, name);
+        if let Err(FileFault::Failed) = read {
+            self.faults = self.faults.saturating_add(1);
+        }
+        read
+    }
+}

@@ -1,0 +1,11 @@
+use Rattle.prio3_kinds.proofs.Itself.{count_vector, sum_vector, histogram_vector}
+use Rattle.prio3_kinds.proofs.laws.measurements_have_their_vectors.Goals as goal
+
+pub returns-clause-count : goal.returns-clause-count
+returns-clause-count c = count_vector
+
+pub returns-clause-sum : goal.returns-clause-sum
+returns-clause-sum c = sum_vector
+
+pub returns-clause-histogram : goal.returns-clause-histogram
+returns-clause-histogram c = histogram_vector

@@ -1,0 +1,319 @@
+use super::*;
+use aes_block::Key;
+use aes_cmac_prg::cmac;
+use dap_bytes::Id;
+use field_laws::Field;
+use field64::Field64;
+use flp_circuits::Count;
+use prio3_prep::State;
+use prio3_share::shard_input;
+use std::alloc::{AllocError, Global};
+use std::process::Abort;
+use std::test::Fail;
+use vdaf_api::{
+    Answer, Bounds, Collected, Kind, Numbers, PrepFault, Role, ShardFault, Shares, Step, Toy,
+    ToyPrep, Vdaf,
+};
+
+/// The identifier of every report here, and the seed.
+const ONE: Id = [0, 0, 0, 0, 0, 0, 0, 0, 0, 0, 0, 0, 0, 0, 0, 1];
+
+/// The verify key.
+const VERIFY: [u8; 16] = [7; 16];
+
+/// What a part of a report is known by: its tag under the key of zeros, which an independent program computed.
+fn tag(bytes: &[u8]) -> u128 {
+    u128::from_be_bytes(cmac(&Key::new([0; 16]), bytes))
+}
+
+/// The answer of one report, by the trait's calls alone. `tags` are those of the public share, both input shares, both
+/// prep shares, the prep message and both out shares, the leader's first.
+fn answered<V: Vdaf>(
+    rt: &impl Abort,
+    alloc: Global,
+    v: &V,
+    m: u64,
+    tags: &[u128; 8],
+) -> Result<Answer, Fail> {
+    let shares = v.shard(alloc, &ONE, m, &ONE).expect(rt, "shares");
+    let public = shares.public.as_slice();
+    let (leader, ours) = v
+        .init(
+            alloc,
+            Role::Leader,
+            &VERIFY,
+            &ONE,
+            public,
+            shares.leader.as_slice(),
+        )
+        .expect(rt, "the leader's prep share");
+    let (helper, theirs) = v
+        .init(
+            alloc,
+            Role::Helper,
+            &VERIFY,
+            &ONE,
+            public,
+            shares.helper.as_slice(),
+        )
+        .expect(rt, "the helper's prep share");
+    let message = v
+        .combine(alloc, &ours, &theirs)
+        .expect(rt, "the prep message");
+    let out = v
+        .finish(alloc, &leader, &message)
+        .expect(rt, "the leader's out share");
+    let other = v
+        .finish(alloc, &helper, &message)
+        .expect(rt, "the helper's out share");
+    let seen = [
+        tag(public),
+        tag(shares.leader.as_slice()),
+        tag(shares.helper.as_slice()),
+        tag(&ours),
+        tag(&theirs),
+        tag(&message),
+        tag(&out),
+        tag(&other),
+    ];
+    assert_eq!(rt; seen.as_slice(), tags.as_slice(), "measurement {m}");
+    counted(rt, alloc, v, &out, &other)
+}
+
+/// The answer of two out shares, the first of them added to noughts.
+fn counted<V: Vdaf>(
+    rt: &impl Abort,
+    alloc: Global,
+    v: &V,
+    out: &[u8],
+    other: &[u8],
+) -> Result<Answer, Fail> {
+    let mut sum = v.zero(alloc)?;
+    assert!(rt; v.is_out(&sum) && v.is_out(out));
+    v.add(&mut sum, out);
+    assert!(rt; v.is_out(&sum) && v.is_out(other));
+    let answer = v.answer(alloc, &sum, other)?;
+    Ok(answer)
+}
+
+/// The function of a kind within its ranges.
+fn function(rt: &impl Abort, alloc: Global, kind: Kind) -> Result<Prio3, AllocError> {
+    assert!(rt; kind.is_valid());
+    Prio3::of(alloc, &kind)
+}
+
+/// 63 bounds, each a thousand above the one before it.
+fn widest(alloc: Global) -> Result<Bounds, AllocError> {
+    let mut bounds = Vec::new(alloc);
+    for i in 0..63_u64 {
+        bounds.push(1000 * i + 5)?;
+    }
+    Ok(Bounds::new(bounds))
+}
+
+#[test]
+fn each_step_of_a_count_is_the_references(rt: HostRuntime) -> Result<(), Fail> {
+    let alloc = rt.alloc();
+    let count = function(&rt, alloc, Kind::Count)?;
+    let tags = [
+        0x4387c14b46ef7e176dceefa862d72ff9,
+        0x880dc9dbcf0fc29b479337180785c7a6,
+        0xd14c7e853fdea3e7a006ed4fda4da811,
+        0xe228e43d9ea38a0eb3a0dd1349fa0c1e,
+        0x0698dc84defe61d77bcf71101cc39047,
+        0x4387c14b46ef7e176dceefa862d72ff9,
+        0x5c04157f165a9801f8522b603dd633a5,
+        0x006744762b09b78f1579add216a5a3e5,
+    ];
+    let answer = answered(&rt, alloc, &count, 1, &tags)?;
+    assert!(rt; answer == Answer::Count(1));
+    assert!(rt; matches!(count.shard(alloc, &ONE, 2, &ONE), Err(ShardFault::BadValue)));
+    let shares = count.shard(alloc, &ONE, 1, &ONE).expect(&rt, "shares");
+    let input = [Field64::one()];
+    let same = shard_input(alloc, &Count::<Field64>::new(), 0, &ONE, &input, &ONE).expect(
+        &rt, "shares",
+    );
+    assert!(rt; shares == same);
+    Ok(())
+}
+
+#[test]
+fn each_step_of_a_sum_is_the_references(rt: HostRuntime) -> Result<(), Fail> {
+    let alloc = rt.alloc();
+    let small = [
+        0x12c2832b70eb123597c09ecabec8cf9d,
+        0x23017fbfd4a319369d5a75087b5042e4,
+        0xedd86fe2c16d6c252ed8ac4927cad753,
+        0xf7290a082748afd3a7061bcd806f12de,
+        0xdbfe0d786915e95943e4f3053b7d75ed,
+        0xea0c875821aa39c3a281604ed66a3305,
+        0xa97df93213e273ceab130824b7f1513a,
+        0xc97226f1192f8b121a38fe7637f4f926,
+    ];
+    let large = [
+        0xe8ca5acbbad5a4fdd5292a62c8d7f3b0,
+        0x83eeb28fc7f18b54f01541dd62333ea9,
+        0xedd86fe2c16d6c252ed8ac4927cad753,
+        0x9e2f08bc19ee7ffa3f7c16eecc8907e1,
+        0xcc616fabde24d51ac0e8b750ce88cbf7,
+        0x324438604e55e12c0b6afc4a9a1d02f2,
+        0x4bd8203ecfeaf99465ff50e67980ab6f,
+        0xae3c171cea0cbe0bbe3166d433db6418,
+    ];
+    for (bits, m, tags) in [(8, 200, small), (64, u64::MAX, large)] {
+        let sum = function(&rt, alloc, Kind::Sum { bits })?;
+        let answer = answered(&rt, alloc, &sum, m, &tags)?;
+        assert!(rt; answer == Answer::Sum(u128::from(m)));
+    }
+    let sum = function(&rt, alloc, Kind::Sum { bits: 8 })?;
+    assert!(rt; matches!(sum.shard(alloc, &ONE, 256, &ONE), Err(ShardFault::BadValue)));
+    Ok(())
+}
+
+#[test]
+fn each_step_of_a_histogram_is_the_references(rt: HostRuntime) -> Result<(), Fail> {
+    let alloc = rt.alloc();
+    let small = [
+        0xc6d352d72f2ce4c56734d1687c50a228,
+        0xecb5efa8d01fb225ac3b0ccda7dd77ec,
+        0x6d1d9463175ac7541fc9a1e820594d8a,
+        0x64cdc5e776cbf63e7ec82d06e22329d5,
+        0xf16adc05c37c6d2f93dfdfe2aed0cc9f,
+        0x2afea22358cb2593da56e9b90a9aade7,
+        0xeba32b652250591bcdb861d4fa05aeb5,
+        0x98e3b24385121f1a57aa150771b4106a,
+    ];
+    let large = [
+        0x17006bee9d09a5b9a111bc6b852d95ce,
+        0xa22f85d1a0c3526885b4d798410e53db,
+        0x6d1d9463175ac7541fc9a1e820594d8a,
+        0x8ede6cd59af2d02e4f513e7ba42e516f,
+        0x97f33a32caee649b317d41aa49edad42,
+        0x22af91f30509d6e04ce9201b3ccafbf7,
+        0xaca08c71198e64b3beb0d168349996f6,
+        0xc3e0827e19f460c3c44a55d306e37782,
+    ];
+    let three = Bounds::new([10, 20, 30].to_vec(alloc)?);
+    for (bounds, m, tags, place) in [(three, 20, small, 1), (widest(alloc)?, 62_006, large, 63)] {
+        let mut wanted = Vec::new(alloc);
+        for i in 0..=bounds.len() {
+            wanted.push(u128::from(i == place))?;
+        }
+        let histogram = function(&rt, alloc, Kind::Histogram { bounds })?;
+        let answer = answered(&rt, alloc, &histogram, m, &tags)?;
+        assert!(rt; answer == Answer::Histogram(Numbers::new(wanted)));
+    }
+    Ok(())
+}
+
+/// Prepares both halves of a report, up to the out shares.
+fn prepare<V: Vdaf>(
+    alloc: Global,
+    v: &V,
+    public: &[u8],
+    leader: &[u8],
+    helper: &[u8],
+) -> Result<(), PrepFault> {
+    let (theirs, helper_share) = v.init(alloc, Role::Helper, &VERIFY, &ONE, public, helper)?;
+    let (ours, leader_share) = v.init(alloc, Role::Leader, &VERIFY, &ONE, public, leader)?;
+    let message = v.combine(alloc, &leader_share, &helper_share)?;
+    let _ = v.finish(alloc, &ours, &message)?;
+    let _ = v.finish(alloc, &theirs, &message)?;
+    Ok(())
+}
+
+/// The bytes with their first, middle or last one changed, by the turn.
+fn changed(alloc: Global, bytes: &[u8], turn: usize) -> Result<Vec<u8>, AllocError> {
+    let mut other = bytes.to_vec(alloc)?;
+    let place = match turn {
+        0 => 0,
+        1 => bytes.len() / 2,
+        _ => bytes.len().saturating_sub(1),
+    };
+    if let Some(byte) = other.get_mut(place) {
+        *byte ^= 1;
+    }
+    Ok(other)
+}
+
+/// A report with a changed byte in one of its parts, or with a byte more, is refused.
+fn check_changes<V: Vdaf>(
+    rt: &impl Abort,
+    alloc: Global,
+    v: &V,
+    shares: &Shares,
+) -> Result<(), Fail> {
+    let public = shares.public.as_slice();
+    let (leader, helper) = (shares.leader.as_slice(), shares.helper.as_slice());
+    assert!(rt; prepare(alloc, v, public, leader, helper).is_ok());
+    for turn in 0..3 {
+        let other = changed(alloc, public, turn)?;
+        let refused = prepare(alloc, v, &other, leader, helper);
+        assert!(rt;
+            public.is_empty() || matches!(refused, Err(PrepFault::Invalid)),
+            "public, turn {turn}"
+        );
+        let other = changed(alloc, leader, turn)?;
+        let refused = prepare(alloc, v, public, &other, helper);
+        assert!(rt;
+            matches!(refused, Err(PrepFault::Invalid)),
+            "leader, turn {turn}"
+        );
+        let other = changed(alloc, helper, turn)?;
+        let refused = prepare(alloc, v, public, leader, &other);
+        assert!(rt;
+            matches!(refused, Err(PrepFault::Invalid)),
+            "helper, turn {turn}"
+        );
+    }
+    let mut longer = public.to_vec(alloc)?;
+    longer.push(0)?;
+    let refused = prepare(alloc, v, &longer, leader, helper);
+    assert!(rt; matches!(refused, Err(PrepFault::Invalid)));
+    Ok(())
+}
+
+#[test]
+fn a_changed_byte_is_refused(rt: HostRuntime) -> Result<(), Fail> {
+    let alloc = rt.alloc();
+    let bounds = Bounds::new([10, 20, 30].to_vec(alloc)?);
+    for (kind, m) in [
+        (Kind::Count, 1),
+        (Kind::Sum { bits: 8 }, 200),
+        (Kind::Histogram { bounds }, 20),
+    ] {
+        let v = function(&rt, alloc, kind)?;
+        let shares = v.shard(alloc, &ONE, m, &ONE).expect(&rt, "shares");
+        check_changes(&rt, alloc, &v, &shares)?;
+    }
+    Ok(())
+}
+
+#[test]
+fn the_toy_function_is_called_by_the_same_code(rt: HostRuntime) -> Result<(), Fail> {
+    let alloc = rt.alloc();
+    let toy = Toy::of(alloc, &Kind::Count)?;
+    let empty = 0x4387c14b46ef7e176dceefa862d72ff9;
+    let (five, zero) = (
+        0x2a1e0e3eae47bc0f8e4ff67824994156,
+        0x49920a3d19cb8c62032b34bce702735f,
+    );
+    let tags = [empty, five, zero, empty, empty, empty, five, zero];
+    let answer = answered(&rt, alloc, &toy, 5, &tags)?;
+    assert!(rt; answer == Answer::Sum(5));
+    Ok(())
+}
+
+fn crosses_threads<T: Send + Sync>() {}
+
+#[test]
+fn functions_and_what_they_make_cross_threads(_rt: HostRuntime) {
+    crosses_threads::<Prio3>();
+    crosses_threads::<State>();
+    crosses_threads::<Toy>();
+    crosses_threads::<ToyPrep>();
+    crosses_threads::<Kind>();
+    crosses_threads::<Shares>();
+    crosses_threads::<Step>();
+    crosses_threads::<Collected>();
+}

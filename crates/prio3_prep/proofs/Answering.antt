@@ -1,0 +1,34 @@
+-- Lemmas: faults handed on, and answers made of a call's clauses.
+use Rattle.std.proofs.Common.{◌≡◌, ℕ, List, Option, Some, None, Result, Ok, Err, Vec, Global, sym, ap, ◌∙◌, subst}
+use Rattle.std.specs.Option.{option_and_then}
+use Rattle.vdaf_api.specs.declared.fault.PrepFault.{PrepFault}
+use Rattle.vdaf_api.specs.declared.fault.PrepFault.TheVariants.{Invalid, NoMemory}
+use Rattle.vdaf_api.specs.Answered.{Prepares, Starts}
+use Rattle.prio3_share.specs.Preparing.{Started, finish}
+use Rattle.prio3_prep.specs.declared.state.State.{State}
+use Rattle.prio3_prep.specs.States.{Begins, Faults, started, state_finish}
+
+pub faults-on : {B D : Type 0} (fault : PrepFault) (o : Option B) (q : Option D) → Faults fault o → (o ≡ None → q ≡ None) → Faults fault q
+faults-on Invalid o q h k = k h
+faults-on NoMemory o q h k = tt
+
+pub prepares-fault : {B : Type 0} (fault : PrepFault) (o : Option B) (q : Option (List ℕ)) → Faults fault o → (o ≡ None → q ≡ None) → Prepares (Err fault) q
+prepares-fault Invalid o q h k = k h
+prepares-fault NoMemory o q h k = tt
+
+-- a start and its state's out shares
+pub starts : (r : Result (State × Vec ℕ Global) PrepFault) (o : Option Started) → Begins started r o
+    → Starts state_finish r (option_and_then (λ s. Some s.share) o) (λ message. option_and_then (λ s. finish s message) o)
+starts (Ok p) o h = (ap (option_and_then (λ s. Some s.share)) h, λ message. sym (ap (option_and_then (λ s. finish s message)) h))
+starts (Err Invalid) o h = (ap (option_and_then (λ s. Some s.share)) h, λ message. ap (option_and_then (λ s. finish s message)) h)
+starts (Err NoMemory) o h = tt
+
+-- an answer of a call, where its definition is the one that is wanted
+pub begins-on : {A B : Type 0} (f : A → B) (r : Result A PrepFault) (o q : Option B) → o ≡ q → Begins f r o → Begins f r q
+begins-on f r o q e h = subst (Begins f r) e h
+
+abbrev pub some_started : List ℕ → List ℕ → List ℕ → Option Started
+some_started share out message = Some (record { share = share; out = out; message = message })
+
+pub started-same : (s s' o o' m m' : List ℕ) → s ≡ s' → o ≡ o' → m ≡ m' → some_started s o m ≡ some_started s' o' m'
+started-same s s' o o' m m' es eo em = ap (λ (l : List ℕ). some_started l o m) es ∙ ap (λ (l : List ℕ). some_started s' l m) eo ∙ ap (some_started s' o') em

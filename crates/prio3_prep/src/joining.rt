@@ -1,0 +1,109 @@
+//! The prep message of both prep shares, and the out share.
+ghost use Rattle.std.specs.Prelude.{◌≡◌, ◌≤◌, ◌+◌, ℕ, IfOk, length, drop};
+ghost use Rattle.std.specs.Str.{bytes_eq};
+ghost use Rattle.field_laws.specs.Polynomial.{add_polynomials};
+ghost use Rattle.vdaf_api.specs.Answered.{Prepares};
+ghost use Rattle.prio3_share.specs.Base.{base_of};
+ghost use Rattle.prio3_share.specs.Texts.{joint_seed};
+ghost use Rattle.prio3_share.specs.Sharing.{if_joint};
+ghost use Rattle.prio3_share.specs.Preparing.{accepts, combine, verifier_bytes};
+ghost use Rattle.prio3_prep.specs.States.{bytes_in, state_finish};
+
+use crate::reading::read_verifier;
+use crate::state::State;
+use field_laws::{Field, add_all};
+use flp_circuits::Circuit;
+use flp_proof::decide;
+use prio3_share::joint_seed_of;
+use std::alloc::{AllocError, Global};
+use vdaf_api::PrepFault;
+
+/// Whether two verifier shares add to a verifier that is accepted.
+fn is_accepted<C: Circuit>(c: &C, mut leader: Vec<C::F>, helper: &[C::F]) -> bool
+    requires leader { length leader.items ≡ (C.shape c.now).arity + 2 }
+    requires helper { length helper.now ≡ (C.shape c.now).arity + 2 }
+    ensures { (kind : ℕ) → result ≡ accepts (base_of C.F.ring C.F.half_of C.F.root_of C.F.number C.F.residue C.F.MODULUS C.F.WIDTH) (C.shape c.now) kind (add_polynomials C.F.ring leader.items helper.now) }
+{
+    add_all(&mut leader, helper);
+    decide(c, &leader)
+}
+
+/// The joint seed of the parts behind the verifier shares, where there is joint randomness, else no bytes.
+fn message_of<C: Circuit>(
+    alloc: Global,
+    c: &C,
+    kind: u8,
+    leader: &[u8],
+    helper: &[u8],
+) -> Result<Vec<u8>, AllocError>
+    requires leader { verifier_bytes (base_of C.F.ring C.F.half_of C.F.root_of C.F.number C.F.residue C.F.MODULUS C.F.WIDTH) (C.shape c.now) kind ≤ length leader.now }
+    requires helper { verifier_bytes (base_of C.F.ring C.F.half_of C.F.root_of C.F.number C.F.residue C.F.MODULUS C.F.WIDTH) (C.shape c.now) kind ≤ length helper.now }
+    ensures { IfOk result (λ v. v.items ≡ if_joint (C.shape c.now) (joint_seed kind (drop (verifier_bytes (base_of C.F.ring C.F.half_of C.F.root_of C.F.number C.F.residue C.F.MODULUS C.F.WIDTH) (C.shape c.now) kind) leader.now) (drop (verifier_bytes (base_of C.F.ring C.F.half_of C.F.root_of C.F.number C.F.residue C.F.MODULUS C.F.WIDTH) (C.shape c.now) kind) helper.now))) }
+{
+    if c.joint_len() == 0 {
+        return Ok(Vec::new(alloc));
+    }
+    let size = (c.arity() + 2) * C::F::WIDTH;
+    let (_, leader_part) = leader.split_at(size);
+    let (_, helper_part) = helper.split_at(size);
+    let seed = joint_seed_of(alloc, kind, leader_part, helper_part)?;
+    seed.to_vec(alloc)
+}
+
+/// The prep message of the leader's and the helper's prep share: the joint seed of their parts, or no bytes where there
+/// is no joint randomness.
+///
+/// `Invalid` exactly where a prep share has another length, an element isn't below the modulus, or the sum of the
+/// verifier shares isn't accepted.
+pub fn combine<C: Circuit>(
+    alloc: Global,
+    c: &C,
+    kind: u8,
+    leader: &[u8],
+    helper: &[u8],
+) -> Result<Vec<u8>, PrepFault>
+    ensures { Prepares result (combine (base_of C.F.ring C.F.half_of C.F.root_of C.F.number C.F.residue C.F.MODULUS C.F.WIDTH) (C.shape c.now) kind leader.now helper.now) }
+{
+    let leader_verifier = match read_verifier(alloc, c, leader) {
+        Ok(verifier) => verifier,
+        Err(fault) => return Err(fault),
+    };
+    let helper_verifier = match read_verifier(alloc, c, helper) {
+        Ok(verifier) => verifier,
+        Err(fault) => return Err(fault),
+    };
+    if !is_accepted(c, leader_verifier, &helper_verifier) {
+        return Err(PrepFault::Invalid);
+    }
+    match message_of(alloc, c, kind, leader, helper) {
+        Ok(message) => Ok(message),
+        Err(_) => Err(PrepFault::NoMemory),
+    }
+}
+
+impl State {
+    /// Whether the prep message is the one that the state waits for.
+    fn awaits(&self, message: &[u8]) -> bool
+        ensures { result ≡ bytes_eq message.now (bytes_in self.now.joint_seed) }
+    {
+        match self.joint_seed {
+            Some(seed) => message == seed.as_slice(),
+            None => message.is_empty(),
+        }
+    }
+}
+
+/// The out share of a half, once the prep message has come.
+///
+/// `Invalid` exactly where the message isn't the state's joint seed, or isn't empty where there is no joint randomness.
+pub fn finish(alloc: Global, state: &State, message: &[u8]) -> Result<Vec<u8>, PrepFault>
+    ensures { Prepares result (state_finish state.now message.now) }
+{
+    if !state.awaits(message) {
+        return Err(PrepFault::Invalid);
+    }
+    match state.out.as_slice().to_vec(alloc) {
+        Ok(out) => Ok(out),
+        Err(_) => Err(PrepFault::NoMemory),
+    }
+}

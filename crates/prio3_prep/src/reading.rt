@@ -1,0 +1,189 @@
+//! Input shares and prep shares, read.
+ghost use Rattle.std.specs.Prelude.{◌≡◌, ◌≤◌, ◌*◌, ◌⊎◌, ℕ, IfOk, IfSome, length};
+ghost use Rattle.flp_proof.specs.Proof.{proof_len};
+ghost use Rattle.vdaf_api.specs.declared.role.Role.TheVariants.{Helper, Leader};
+ghost use Rattle.prio3_share.specs.Base.{base_of};
+ghost use Rattle.prio3_share.specs.Texts.{drawn_for};
+ghost use Rattle.prio3_share.specs.Sharing.{joint_bytes};
+ghost use Rattle.prio3_share.specs.Preparing.{elements_of, half_of, verifier_of};
+ghost use Rattle.prio3_prep.specs.States.{Begins, bytes_in, held};
+
+use crate::half::InputHalf;
+use aes_cmac_prg::DrawFault;
+use field_laws::Field;
+use flp_circuits::Circuit;
+use flp_proof::proof_len;
+use prio3_share::{Usage, draw_for};
+use std::alloc::Global;
+use vdaf_api::{PrepFault, Role};
+
+/// Elements drawn for a use; a spent drawing is an invalid share.
+pub(crate) fn draw<F: Field>(
+    alloc: Global,
+    kind: u8,
+    seed: &[u8; 16],
+    usage: Usage,
+    rest: &[u8],
+    n: usize,
+) -> Result<Vec<F>, PrepFault>
+    requires few { n ≤ 8192 }
+    ensures drawn { Begins (λ v. v.items) result (drawn_for (base_of F.ring F.half_of F.root_of F.number F.residue F.MODULUS F.WIDTH) kind seed.now usage rest.now n) }
+    ensures size { IfOk result (λ v. length v.items ≡ n) }
+{
+    match draw_for(alloc, kind, seed, usage, rest, n) {
+        Ok(elements) => Ok(elements),
+        Err(DrawFault::Spent) => Err(PrepFault::Invalid),
+        Err(DrawFault::NoMemory) => Err(PrepFault::NoMemory),
+    }
+}
+
+/// The `n` elements that these bytes spell.
+pub(crate) fn read_elements<F: Field>(
+    alloc: Global,
+    n: usize,
+    bytes: &[u8],
+) -> Result<Vec<F>, PrepFault>
+    requires { length bytes.now ≡ n * F.WIDTH }
+    ensures { Begins (λ v. v.items) result (elements_of (base_of F.ring F.half_of F.root_of F.number F.residue F.MODULUS F.WIDTH) n bytes.now) }
+{
+    let mut elements = Vec::new(alloc);
+    let mut rest = bytes;
+    for i in 0..n {
+        let (first, more) = rest.split_at(F::WIDTH);
+        let Some(element) = F::decode(first) else {
+            return Err(PrepFault::Invalid);
+        };
+        match elements.push(element) {
+            Ok(()) => rest = more,
+            Err(_) => return Err(PrepFault::NoMemory),
+        }
+    }
+    Ok(elements)
+}
+
+/// This number of bytes where there is joint randomness, else none.
+pub(crate) fn joint_bytes<C: Circuit>(c: &C, n: usize) -> usize
+    ensures { result ≡ joint_bytes (C.shape c.now) n }
+{
+    if c.joint_len() > 0 { n } else { 0 }
+}
+
+/// A key as an array.
+pub(crate) fn key_from(bytes: &[u8]) -> [u8; 16]
+    requires { length bytes.now ≡ 16 }
+    ensures { result ≡ bytes.now }
+{
+    let mut key = [0; 16];
+    key.copy_from_slice(bytes);
+    key
+}
+
+/// The blind behind the halves of an input share.
+fn blind_from(bytes: &[u8]) -> Option<[u8; 16]>
+    requires { length bytes.now ≡ 16 ⊎ length bytes.now ≡ 0 }
+    ensures bytes { bytes_in result ≡ bytes.now }
+    ensures size { IfSome result (λ b. length b ≡ 16) }
+{
+    if bytes.is_empty() {
+        None
+    } else {
+        Some(key_from(bytes))
+    }
+}
+
+/// The leader's half: its input share spells it.
+fn leader_half<C: Circuit>(alloc: Global, c: &C, input: &[u8]) -> Result<InputHalf<C::F>, PrepFault>
+    ensures { (kind : ℕ) → Begins held result (half_of (base_of C.F.ring C.F.half_of C.F.root_of C.F.number C.F.residue C.F.MODULUS C.F.WIDTH) (C.shape c.now) kind Leader input.now) }
+{
+    let x_bytes = c.input_len() * C::F::WIDTH;
+    let proof_bytes = proof_len(c) * C::F::WIDTH;
+    if input.len() != x_bytes + (proof_bytes + joint_bytes(c, 16)) {
+        return Err(PrepFault::Invalid);
+    }
+    let (first, rest) = input.split_at(x_bytes);
+    let (second, blind) = rest.split_at(proof_bytes);
+    let x = match read_elements(alloc, c.input_len(), first) {
+        Ok(x) => x,
+        Err(fault) => return Err(fault),
+    };
+    let proof = match read_elements(alloc, proof_len(c), second) {
+        Ok(proof) => proof,
+        Err(fault) => return Err(fault),
+    };
+    Ok(InputHalf {
+        x,
+        proof,
+        blind: blind_from(blind),
+    })
+}
+
+/// The helper's half: it is drawn from the keys in its input share.
+fn helper_half<C: Circuit>(
+    alloc: Global,
+    c: &C,
+    kind: u8,
+    input: &[u8],
+) -> Result<InputHalf<C::F>, PrepFault>
+    ensures { Begins held result (half_of (base_of C.F.ring C.F.half_of C.F.root_of C.F.number C.F.residue C.F.MODULUS C.F.WIDTH) (C.shape c.now) kind Helper input.now) }
+{
+    if input.len() != 32 + joint_bytes(c, 16) {
+        return Err(PrepFault::Invalid);
+    }
+    let (first, rest) = input.split_at(16);
+    let (second, blind) = rest.split_at(16);
+    let x_key = key_from(first);
+    let x = match draw(alloc, kind, &x_key, Usage::HelperInput, &[], c.input_len()) {
+        Ok(x) => x,
+        Err(fault) => return Err(fault),
+    };
+    let proof_key = key_from(second);
+    let proof = match draw(
+        alloc,
+        kind,
+        &proof_key,
+        Usage::HelperProof,
+        &[],
+        proof_len(c),
+    ) {
+        Ok(proof) => proof,
+        Err(fault) => return Err(fault),
+    };
+    Ok(InputHalf {
+        x,
+        proof,
+        blind: blind_from(blind),
+    })
+}
+
+/// What an input share holds.
+pub(crate) fn half_for<C: Circuit>(
+    alloc: Global,
+    c: &C,
+    kind: u8,
+    role: Role,
+    input: &[u8],
+) -> Result<InputHalf<C::F>, PrepFault>
+    ensures { Begins held result (half_of (base_of C.F.ring C.F.half_of C.F.root_of C.F.number C.F.residue C.F.MODULUS C.F.WIDTH) (C.shape c.now) kind role input.now) }
+{
+    match role {
+        Role::Leader => leader_half(alloc, c, input),
+        Role::Helper => helper_half(alloc, c, kind, input),
+    }
+}
+
+/// The verifier share in a prep share.
+pub(crate) fn read_verifier<C: Circuit>(
+    alloc: Global,
+    c: &C,
+    share: &[u8],
+) -> Result<Vec<C::F>, PrepFault>
+    ensures { (kind : ℕ) → Begins (λ v. v.items) result (verifier_of (base_of C.F.ring C.F.half_of C.F.root_of C.F.number C.F.residue C.F.MODULUS C.F.WIDTH) (C.shape c.now) kind share.now) }
+{
+    let n = c.arity() + 2;
+    let size = n * C::F::WIDTH;
+    if share.len() != size + joint_bytes(c, 16) {
+        return Err(PrepFault::Invalid);
+    }
+    let (verifier, _part) = share.split_at(size);
+    read_elements(alloc, n, verifier)
+}
