@@ -15,10 +15,11 @@ pub record Accepted : Type 0 where
   pub time : ℕ
   pub shares : Parts
 
--- the bytes of a report as long as no format spells it: its time and the lengths of two shares, which are numbers of any
--- size, and all its shares
+-- The bytes of a report as long as no format spells it: its time, and its public, leader and helper shares, each of the
+-- first two after its length. The time and the lengths stand as they are.
 abbrev pub report_of : Accepted → List ℕ
-report_of a = a.time ∷ length a.shares.public ∷ length a.shares.leader ∷ (a.shares.public ++ (a.shares.leader ++ a.shares.helper))
+report_of a =
+    a.time ∷ length a.shares.public ∷ (a.shares.public ++ length a.shares.leader ∷ (a.shares.leader ++ a.shares.helper))
 
 -- a collected batch: a task's name and the batch's start
 pub record Batch : Type 0 where
