@@ -4,9 +4,7 @@ use Rattle.std.specs.Io.KnownBytes.{Appends}
 use Rattle.std.specs.Option.{option_map_or}
 use Rattle.std.specs.Str.{bytes_eq}
 use Rattle.std.specs.declared.alloc.Global.{Global}
-use Rattle.vdaf_api.specs.Functions.{Functions}
-use Rattle.vdaf_api.specs.Toy.{toy_functions}
-use Rattle.vdaf_api.specs.declared.kind.Kind.{Kind}
+use Rattle.prio3_kinds.specs.Kinds.{functions_of_kind}
 use Rattle.dap_script.specs.Script.{script_of}
 use Rattle.dap_script.specs.declared.line.Line.{Line}
 use Rattle.dap_script.specs.declared.line.Line.TheVariants as line
@@ -24,10 +22,6 @@ abbrev pub faulty_word_of : List (List ℕ) → Option ℕ
 faulty_word_of [] = Some 1
 faulty_word_of (word ∷ []) = if bytes_eq word (codes "run") then None else Some 1
 faulty_word_of (word ∷ next ∷ more) = if bytes_eq word (codes "run") then Some 2 else Some 1
-
--- the measurement function of a kind
-abbrev pub functions_of : Kind → Functions
-functions_of kind = toy_functions
 
 -- a line of a form that isn't run yet: `now`, `upload` or `restart`
 abbrev pub is_later : Line → Bool
@@ -54,7 +48,7 @@ lines_status lines = option_map_or NotYet (later_line_of lines) Done
 
 -- what a script's lines print: nothing where one of them isn't run yet
 abbrev pub lines_text : List Line → List ℕ
-lines_text lines = option_map_or (λ line. []) (later_line_of lines) (model_text functions_of lines)
+lines_text lines = option_map_or (λ line. []) (later_line_of lines) (model_text functions_of_kind lines)
 
 -- the status of a script that reads, or the first line that is refused
 abbrev pub read_status : Result (List Line) ℕ → Status

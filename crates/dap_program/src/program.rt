@@ -13,8 +13,8 @@ use crate::transfer::{read_all, write_all};
 use dap_direct::printed_text;
 use dap_outside::{Sink, Source};
 use dap_script::{Line, read_script};
+use prio3_kinds::Prio3;
 use std::alloc::Global;
-use vdaf_api::Toy;
 
 /// The first word that no command has there, counted from 1.
 fn faulty_word(words: &[String]) -> Option<u32>
@@ -61,7 +61,7 @@ fn text_of(alloc: Global, lines: &[Line]) -> Result<Vec<u8>, Status>
     if let Some(line) = later_line(lines) {
         return Err(Status::NotYet { line });
     }
-    Ok(printed_text::<Toy>(alloc, lines)?)
+    Ok(printed_text::<Prio3>(alloc, lines)?)
 }
 
 /// Reads the script, runs it and prints what its lines print.
