@@ -5,7 +5,7 @@ use Rattle.dap_outside.specs.declared.sink.SinkFault.TheVariants as sink
 use Rattle.dap_script.specs.declared.fault.ScriptFault.{ScriptFault}
 use Rattle.dap_script.specs.declared.fault.ScriptFault.TheVariants as script
 use Rattle.dap_program.specs.declared.status.Status.{Status}
-use Rattle.dap_program.specs.declared.status.Status.TheVariants.{Done, Usage, NotYet, ReadFault, WriteFault, Limit, NoMemory}
+use Rattle.dap_program.specs.declared.status.Status.TheVariants.{Done, Usage, ScriptRefused, NotYet, ReadFault, WriteFault, Limit, NoMemory}
 
 -- the status of a sink's fault
 abbrev pub after_sink : SinkFault → Status
@@ -14,13 +14,14 @@ after_sink sink.NoMemory = NoMemory
 
 -- the status of a script that isn't read
 abbrev pub after_script : ScriptFault → Status
-after_script (script.Refused line) = NotYet line
+after_script (script.Refused line) = ScriptRefused line
 after_script script.NoMemory = NoMemory
 
 -- the number with which the process ends
 abbrev pub number_of : Status → ℕ
 number_of Done = 0
 number_of (Usage word) = 1
+number_of (ScriptRefused line) = 3
 number_of ReadFault = 4
 number_of WriteFault = 5
 number_of (Limit line limit) = 11

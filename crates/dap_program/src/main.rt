@@ -5,12 +5,8 @@
 #![tactic(auto)]
 
 mod adapters;
-mod direct;
 mod program;
-mod report;
-mod shares;
 mod status;
-mod sums;
 mod transfer;
 
 use crate::adapters::{Reading, Writing};
@@ -31,11 +27,16 @@ on the script that stands on standard input, and prints what its lines print.
   dap --version  print the version
 
 Lines of a script, each ended by a line feed:
-  task NAME count MIN PRECISION     a task, in the first line: batches of PRECISION
-                                    units of time, collected from MIN reports on
-  measure NAME ID TIME VALUE SEED   a client's measurement, 0 or 1;
-                                    ID and SEED are 32 hex digits
-  collect NAME START                the sum of a batch, in the last line
+  task NAME count MIN PRECISION             a task that counts measurements of 1
+  task NAME sum BITS MIN PRECISION          one that adds numbers of 1 to 64 bits
+  task NAME histogram B0,B1 MIN PRECISION   one that counts numbers in buckets, of
+                                            which these are the upper bounds
+  measure NAME ID TIME VALUE SEED           a client's measurement; ID and SEED are
+                                            32 hex digits
+  collect NAME START                        the answer of the batch from START on
+
+A batch spans PRECISION units of time, and is collected from MIN reports on. An
+empty line, or one that begins with #, does nothing.
 
 The exit status is 0 where the script was run to its end. Else a line on standard
 error says what stopped it.

@@ -1,17 +1,19 @@
 //! The top call.
 
-ghost use Rattle.std.specs.Prelude.{◌≡◌, ◌⊎◌, ◌↔◌, ◌≤◌, ◌<◌, ℕ, [], length, Some, None, Err, IfSome, IfErr, OnOk, OnErr, IsErrOf};
+ghost use Rattle.std.specs.Prelude.{◌≡◌, ◌⊎◌, ◌↔◌, ◌≤◌, ◌<◌, ◌^◌, ℕ, [], length, Some, None, Err, IfSome, IfErr, OnOk, OnErr, IsErrOf};
 ghost use Rattle.std.specs.Io.KnownBytes.{Appends, IsAtEnd, Keeps};
 ghost use Rattle.dap_bytes.specs.Causes.{Rose};
 ghost use Rattle.dap_script.specs.Script.{script_of};
-ghost use Rattle.dap_program.specs.Headline.{word_texts, faulty_word_of, status_of, output_of, IsStop, IsSilent, IsTooLong, Prints};
+ghost use Rattle.dap_script.specs.Spelling.{IsScript};
+ghost use Rattle.dap_program.specs.Headline.{word_texts, faulty_word_of, is_later, later_line_of, status_of, output_of, Comes, IsNotYet, IsStop, IsSilent, IsTooLong, Prints};
 ghost use Rattle.dap_program.specs.Transfer.{AppendsPart};
 
-use crate::direct::printed_text;
 use crate::status::Status;
 use crate::transfer::{read_all, write_all};
+use dap_direct::printed_text;
 use dap_outside::{Sink, Source};
-use dap_script::read_script;
+use dap_script::{Line, read_script};
+use prio3_kinds::Prio3;
 use std::alloc::Global;
 
 /// The first word that no command has there, counted from 1.
@@ -23,6 +25,43 @@ fn faulty_word(words: &[String]) -> Option<u32>
         [word, _, ..] if word.as_str() == "run" => Some(2),
         _ => Some(1),
     }
+}
+
+/// Whether the line has a form that isn't run yet.
+fn is_later(line: &Line) -> bool
+    ensures { result ≡ is_later line.now }
+{
+    matches!(
+        line,
+        Line::Now { .. } | Line::Upload { .. } | Line::Restart { .. }
+    )
+}
+
+/// The first line that isn't run yet, counted from 1.
+fn later_line(lines: &[Line]) -> Option<u32>
+    requires { length lines.now < 2 ^ 31 }
+    ensures { result ≡ later_line_of lines.now }
+{
+    let mut number: u32 = 1;
+    for line in lines {
+        if is_later(line) {
+            return Some(number);
+        }
+        number += 1;
+    }
+    None
+}
+
+/// What the lines of a script print.
+fn text_of(alloc: Global, lines: &[Line]) -> Result<Vec<u8>, Status>
+    requires few { length lines.now < 2 ^ 31 }
+    requires is_script { IsScript lines.now }
+    ensures { Comes result lines.now }
+{
+    if let Some(line) = later_line(lines) {
+        return Err(Status::NotYet { line });
+    }
+    Ok(printed_text::<Prio3>(alloc, lines)?)
 }
 
 /// Reads the script, runs it and prints what its lines print.
@@ -42,7 +81,7 @@ fn run<S: Source, K: Sink>(alloc: Global, script: &mut S, out: &mut K) -> Result
 {
     let bytes = read_all(alloc, script)?;
     let lines = read_script(alloc, &bytes)?;
-    let text = printed_text(alloc, &lines)?;
+    let text = text_of(alloc, &lines)?;
     write_all(out, &text)?;
     Ok(())
 }
@@ -61,8 +100,11 @@ pub fn dap_alone<S: Source, K: Sink>(
     // Else the status is the script's, unless a device failed or memory ran out.
     ensures exact { faulty_word_of (word_texts words.now) ≡ None → IfSome (S.left script.old) (λ input. IsStop result ⊎ (result ≡ status_of input)) }
 
-    // A line is named exactly where the script isn't of the form from this line on.
-    ensures not_yet { (line : ℕ) → result ≡ Status.NotYet line → IfSome (S.left script.old) (λ input. script_of input ≡ Err line) }
+    // A line is refused only where the script is none from this line on.
+    ensures refused { (line : ℕ) → result ≡ Status.ScriptRefused line → IfSome (S.left script.old) (λ input. script_of input ≡ Err line) }
+
+    // A line is not yet run only where the whole script reads, and it is the first of these forms.
+    ensures not_yet { (line : ℕ) → result ≡ Status.NotYet line → IfSome (S.left script.old) (λ input. IsNotYet input line) }
 
     // The one limit is passed exactly by a script of more bytes.
     ensures limit { (line limit : ℕ) → result ≡ Status.Limit line limit → IfSome (S.left script.old) (λ input. IsTooLong input line limit) }

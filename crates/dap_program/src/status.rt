@@ -12,7 +12,9 @@ pub enum Status {
     Done,
     /// The words are no command from this word on, counted from 1.
     Usage { word: u32 },
-    /// The script isn't of the form that is run, from this line on, counted from 1.
+    /// This line of the script, counted from 1, isn't in the grammar, or names the task of a line before it.
+    ScriptRefused { line: u32 },
+    /// This line of the script, counted from 1, has a form that isn't run yet.
     NotYet { line: u32 },
     /// The source of the script failed.
     ReadFault,
@@ -35,6 +37,7 @@ impl Status {
         match self {
             Status::Done => 0,
             Status::Usage { .. } => 1,
+            Status::ScriptRefused { .. } => 3,
             Status::ReadFault => 4,
             Status::WriteFault => 5,
             Status::Limit { .. } => 11,
@@ -49,6 +52,7 @@ impl fmt::Display for Status {
         match self {
             Status::Done => write!(f, "done"),
             Status::Usage { word } => write!(f, "usage: word {word}"),
+            Status::ScriptRefused { line } => write!(f, "script refused: line {line}"),
             Status::NotYet { line } => write!(f, "not yet: line {line}"),
             Status::ReadFault => write!(f, "read fault"),
             Status::WriteFault => write!(f, "write fault"),
@@ -102,7 +106,7 @@ impl From<ScriptFault> for Status {
 
     fn from(fault: ScriptFault) -> Self {
         match fault {
-            ScriptFault::Refused { line } => Status::NotYet { line },
+            ScriptFault::Refused { line } => Status::ScriptRefused { line },
             ScriptFault::NoMemory => Status::NoMemory,
         }
     }

@@ -35,14 +35,17 @@ fn check(
 }
 
 /// Scripts and what they print.
-const PRINTED: [(&str, &str); 7] = [
+const PRINTED: [(&str, &str); 16] = [
     (
         THREE_REPORTS,
         "collected v 0 reports 3 rejected 0 count 2\n",
     ),
-    // No report, and no line feed at the end.
+    // No line, and a blank one, a comment and a carriage return.
     ("", ""),
-    ("task v count 3 3600", ""),
+    (
+        "\n# two lines that do nothing\ntask v count 1 1\r\ncollect v 7\r\n",
+        "small v 7 reports 0\n",
+    ),
     // One report fewer than the minimum.
     (
         "task v count 4 3600
@@ -53,32 +56,135 @@ collect v 0
 ",
         "small v 0 reports 3\n",
     ),
+    // A small batch stays open.
+    (
+        "task v count 3 3600
+measure v 00000000000000000000000000000001 10 1 00000000000000000000000000000001
+measure v 00000000000000000000000000000002 20 0 00000000000000000000000000000002
+collect v 0
+measure v 00000000000000000000000000000003 3599 1 00000000000000000000000000000003
+collect v 0
+collect v 3600
+",
+        "small v 0 reports 2
+collected v 0 reports 3 rejected 0 count 2
+small v 3600 reports 0
+",
+    ),
     // A batch ends before the next begins.
     (
         "task v count 1 3600
 measure v 00000000000000000000000000000001 3599 1 00000000000000000000000000000001
 measure v 00000000000000000000000000000002 3600 1 00000000000000000000000000000002
-measure v 00000000000000000000000000000003 7200 0 00000000000000000000000000000003
-collect v 3600",
-        "collected v 3600 reports 1 rejected 0 count 1\n",
-    ),
-    (
-        "task v count 1 3600
-measure v 00000000000000000000000000000001 3599 1 00000000000000000000000000000001
-collect v 7200
+collect v 0
+collect v 3600
 ",
-        "small v 7200 reports 0\n",
+        "collected v 0 reports 1 rejected 0 count 1
+collected v 3600 reports 1 rejected 0 count 1
+",
     ),
-    // Shares whose sums pass the modulus.
+    // A repeat is accepted and not counted again.
     (
-        "task v count 2 10
-measure v 00000000000000000000000000000001 1 1 ffffffffffffffffffffffffffffffff
-measure v 00000000000000000000000000000002 2 1 ffffffffffffffffffffffffffffffff
-measure v 00000000000000000000000000000003 3 0 ffffffffffffffff0000000000000000
+        "task v count 3 3600
+measure v 00000000000000000000000000000001 10 1 00000000000000000000000000000001
+measure v 00000000000000000000000000000001 10 1 00000000000000000000000000000001
+measure v 00000000000000000000000000000002 20 0 00000000000000000000000000000002
+measure v 00000000000000000000000000000003 3599 1 00000000000000000000000000000003
 collect v 0
 ",
         "collected v 0 reports 3 rejected 0 count 2\n",
     ),
+    // Another report under an identifier that is taken.
+    (
+        "task v count 3 3600
+measure v 00000000000000000000000000000001 10 1 00000000000000000000000000000001
+measure v 00000000000000000000000000000002 20 0 00000000000000000000000000000002
+measure v 00000000000000000000000000000001 3600 1 00000000000000000000000000000001
+measure v 00000000000000000000000000000003 3599 1 00000000000000000000000000000003
+collect v 0
+",
+        "refused 4 conflict
+collected v 0 reports 3 rejected 0 count 2
+",
+    ),
+    // A collected batch takes no more, and is printed again.
+    (
+        "task v count 3 3600
+measure v 00000000000000000000000000000001 10 1 00000000000000000000000000000001
+measure v 00000000000000000000000000000002 20 0 00000000000000000000000000000002
+measure v 00000000000000000000000000000003 3599 1 00000000000000000000000000000003
+collect v 0
+measure v 00000000000000000000000000000004 30 1 00000000000000000000000000000004
+collect v 0
+",
+        "collected v 0 reports 3 rejected 0 count 2
+refused 6 collected
+collected v 0 reports 3 rejected 0 count 2
+",
+    ),
+    // A sum of 8 bits, and a value that has 9.
+    (
+        "task s sum 8 3 3600
+measure s 00000000000000000000000000000001 10 255 00000000000000000000000000000001
+measure s 00000000000000000000000000000002 20 0 00000000000000000000000000000002
+measure s 00000000000000000000000000000003 3599 7 00000000000000000000000000000003
+measure s 00000000000000000000000000000004 1 256 00000000000000000000000000000004
+collect s 0
+",
+        "refused 5 value
+collected s 0 reports 3 rejected 0 sum 262
+",
+    ),
+    // A sum of 64 bits that passes them.
+    (
+        "task s sum 64 3 3600
+measure s 00000000000000000000000000000001 10 18446744073709551615 00000000000000000000000000000001
+measure s 00000000000000000000000000000002 20 18446744073709551615 00000000000000000000000000000002
+measure s 00000000000000000000000000000003 3599 18446744073709551615 00000000000000000000000000000003
+collect s 0
+",
+        "collected s 0 reports 3 rejected 0 sum 55340232221128654845\n",
+    ),
+    // A bound belongs to the bucket below it.
+    (
+        "task h histogram 10,20,30 1 3600
+measure h 00000000000000000000000000000001 1 10 00000000000000000000000000000001
+measure h 00000000000000000000000000000002 2 11 00000000000000000000000000000002
+measure h 00000000000000000000000000000003 3 30 00000000000000000000000000000003
+measure h 00000000000000000000000000000004 4 31 00000000000000000000000000000004
+collect h 0
+",
+        "collected h 0 reports 4 rejected 0 histogram 1,1,1,1\n",
+    ),
+    // No such task, and a start inside a batch.
+    (
+        "task v count 3 3600\ncollect w 0\ncollect v 1\n",
+        "refused 2 task\nrefused 3 start\n",
+    ),
+    (
+        "measure w 00000000000000000000000000000001 0 1 00000000000000000000000000000001
+task w count 1 1
+measure v 00000000000000000000000000000001 0 1 00000000000000000000000000000001
+collect w 0
+",
+        "refused 3 task\ncollected w 0 reports 1 rejected 0 count 1\n",
+    ),
+    // Tasks have their own reports, and batches any order.
+    (
+        "task a count 1 10
+task b sum 1 1 20
+measure b 00000000000000000000000000000001 39 1 00000000000000000000000000000001
+measure a 00000000000000000000000000000001 39 0 00000000000000000000000000000001
+collect b 20
+collect a 30
+collect a 0
+",
+        "collected b 20 reports 1 rejected 0 sum 1
+collected a 30 reports 1 rejected 0 count 0
+small a 0 reports 0
+",
+    ),
+    ("task v count 3 3600", ""),
 ];
 
 #[test]
@@ -89,42 +195,33 @@ fn scripts_print_what_the_model_says(rt: HostRuntime) -> Result<(), Fail> {
     Ok(())
 }
 
-/// Scripts and their first line that isn't run yet.
-const NOT_YET: [(&str, u32); 11] = [
-    ("now 5\ntask v count 3 3600\n", 1),
-    ("# comment\n", 1),
-    ("task v count 3 3600\r\n", 1),
-    ("task v count 0 1\n", 1),
-    ("task v count 3 3600\n\n", 2),
-    ("task v count 3 3600\nmeasur v\n", 2),
-    ("task v count 3 3600\ncollect w 0", 2),
-    ("task v count 3 3600\ncollect v 1", 2),
-    // A `collect` that isn't the last line.
-    ("task v count 3 3600\ncollect v 0\ncollect v 0\n", 3),
+/// Scripts that aren't run, and the line that is named.
+const STOPPED: [(&str, Status); 9] = [
     (
-        "task v count 3 3600
-measure v 00000000000000000000000000000001 10 1 00000000000000000000000000000001
-measure v 00000000000000000000000000000001 20 1 00000000000000000000000000000002",
-        3,
+        "task v count 3 3600\nmeasur v\n",
+        Status::ScriptRefused { line: 2 },
     ),
+    ("task v count 0 1\n", Status::ScriptRefused { line: 1 }),
     (
-        "task v count 3 3600
-measure v 00000000000000000000000000000001 10 2 00000000000000000000000000000001",
-        2,
+        "task v count 1 1\ncollect v 0\ntask v sum 1 1 1",
+        Status::ScriptRefused { line: 3 },
     ),
+    // The grammar is tested first.
+    ("now 5\nx\n", Status::ScriptRefused { line: 2 }),
+    ("now 5\n", Status::NotYet { line: 1 }),
+    (
+        "task v count 1 1\ncollect v 0\nupload Zg==\nrestart leader\n",
+        Status::NotYet { line: 3 },
+    ),
+    ("\nrestart leader\nnow 5\n", Status::NotYet { line: 2 }),
+    ("#\n\nrestart helper", Status::NotYet { line: 3 }),
+    ("upload Zg=\n", Status::ScriptRefused { line: 1 }),
 ];
 
 #[test]
-fn the_first_line_that_is_not_run_is_named(rt: HostRuntime) -> Result<(), Fail> {
-    for (script, line) in &NOT_YET {
-        check(
-            &rt,
-            rt.alloc(),
-            &["run"],
-            script,
-            Status::NotYet { line: *line },
-            "",
-        )?;
+fn a_line_that_is_not_run_is_named(rt: HostRuntime) -> Result<(), Fail> {
+    for (script, status) in &STOPPED {
+        check(&rt, rt.alloc(), &["run"], script, *status, "")?;
     }
     Ok(())
 }
@@ -170,6 +267,11 @@ fn statuses_have_their_numbers_and_texts(rt: HostRuntime) -> Result<(), Fail> {
     let cases = [
         (Status::Done, 0, "done"),
         (Status::Usage { word: 2 }, 1, "usage: word 2"),
+        (
+            Status::ScriptRefused { line: 3 },
+            3,
+            "script refused: line 3",
+        ),
         (Status::ReadFault, 4, "read fault"),
         (Status::WriteFault, 5, "write fault"),
         (Status::Limit { line: 0, limit: 5 }, 11, "limit 5 at line 0"),

@@ -20,15 +20,6 @@ collect v 7200
 restart leader
 restart helper";
 
-fn kinds(alloc: Global) -> Result<[Kind; 3], Fail> {
-    let bounds = Bounds::new(Vec::from_slice(alloc, &[0, 10, u64::MAX])?);
-    Ok([
-        Kind::Count,
-        Kind::Sum { bits: 64 },
-        Kind::Histogram { bounds },
-    ])
-}
-
 fn name(text: &[u8]) -> Result<Name, Fail> {
     Ok(Name::new(text).ok_or("a name")?)
 }
@@ -37,27 +28,28 @@ fn name(text: &[u8]) -> Result<Name, Fail> {
 fn a_script_is_its_lines(rt: HostRuntime) -> Result<(), Fail> {
     let alloc = rt.alloc();
     let v = name(b"v")?;
-    let [count, sum, histogram] = kinds(alloc)?;
+    let bounds = Bounds::new(Vec::from_slice(alloc, &[0, 10, u64::MAX])?);
+    let report = Bytes::new(Vec::from_slice(alloc, b"fo")?);
     let mut seed = [255; 16];
     seed[15] = 0;
     let expected = [
         Line::Blank,
         Line::Task {
             name: v,
-            kind: count,
+            kind: Kind::Count,
             min: 3,
             precision: 3600,
         },
         Line::Blank,
         Line::Task {
             name: name(b"s-1")?,
-            kind: sum,
+            kind: Kind::Sum { bits: 64 },
             min: 1_000_000,
             precision: 1_000_000_000,
         },
         Line::Task {
             name: name(b"h_")?,
-            kind: histogram,
+            kind: Kind::Histogram { bounds },
             min: 1,
             precision: 1,
         },
@@ -71,9 +63,7 @@ fn a_script_is_its_lines(rt: HostRuntime) -> Result<(), Fail> {
             value: u64::MAX,
             seed,
         },
-        Line::Upload {
-            report: Bytes::new(Vec::from_slice(alloc, b"fo")?),
-        },
+        Line::Upload { report },
         Line::Collect {
             name: v,
             start: 7200,
