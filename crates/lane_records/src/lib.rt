@@ -1,2 +1,0 @@
-//! Records.
-#![tactic(auto)]
