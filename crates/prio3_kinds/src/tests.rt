@@ -80,6 +80,26 @@ fn answered<V: Vdaf>(
     counted(rt, alloc, v, &out, &other)
 }
 
+/// Adds an out share to another.
+fn add<V: Vdaf>(rt: &impl Abort, v: &V, sum: &mut [u8], out: &[u8]) {
+    assert!(rt; v.is_out(sum));
+    assert!(rt; v.is_out(out));
+    v.add(sum, out);
+}
+
+/// The answer of two out shares.
+fn answer_of<V: Vdaf>(
+    rt: &impl Abort,
+    alloc: Global,
+    v: &V,
+    leader: &[u8],
+    helper: &[u8],
+) -> Result<Answer, Fail> {
+    assert!(rt; v.is_out(leader));
+    assert!(rt; v.is_out(helper));
+    Ok(v.answer(alloc, leader, helper)?)
+}
+
 /// The answer of two out shares, the first of them added to noughts.
 fn counted<V: Vdaf>(
     rt: &impl Abort,
@@ -89,13 +109,8 @@ fn counted<V: Vdaf>(
     other: &[u8],
 ) -> Result<Answer, Fail> {
     let mut sum = v.zero(alloc)?;
-    assert!(rt; v.is_out(&sum));
-    assert!(rt; v.is_out(out));
-    v.add(&mut sum, out);
-    assert!(rt; v.is_out(&sum));
-    assert!(rt; v.is_out(other));
-    let answer = v.answer(alloc, &sum, other)?;
-    Ok(answer)
+    add(rt, v, &mut sum, out);
+    answer_of(rt, alloc, v, &sum, other)
 }
 
 /// The function of a kind within its ranges.
