@@ -13,7 +13,7 @@ use Rattle.dap_tasks.specs.declared.cause.Judged.{Judged}
 use Rattle.dap_tasks.specs.declared.cause.Judged.TheVariants.{Again, Barred, Added}
 use Rattle.dap_script.specs.declared.line.Line.{Line}
 use Rattle.dap_script.specs.declared.line.Line.TheVariants as line
-use Rattle.dap_model.specs.State.{Accepted, State, batch_of, contents_in, is_collected, known_in, rejected_in, report_of}
+use Rattle.dap_model.specs.State.{Accepted, Batch, State, batch_of, contents_in, is_collected, known_in, rejected_in, report_of}
 use Rattle.dap_model.specs.declared.printed.Printed.{Printed}
 use Rattle.dap_model.specs.declared.printed.Printed.TheVariants.{Collected, Small, Refused}
 
@@ -60,17 +60,16 @@ collection_of f s task start =
       answer = (f task.kind).answer (total_numbers (f task.kind).space (contents_in f task start s.accepted));
     })
 
--- the batch is collected
-abbrev pub with_batch : State → List ℕ → ℕ → State
-with_batch s name start =
-    if is_collected s.collected name start then s
-    else (record s { collected = s.collected ++ record { task = name; start = start } ∷ [] })
+-- the collected batches with this one, which stands among them once
+abbrev pub with_batch : List Batch → List ℕ → ℕ → List Batch
+with_batch collected name start =
+    if is_collected collected name start then collected else (collected ++ record { task = name; start = start } ∷ [])
 
 -- the task's batch that starts there is collected if it's due
 abbrev pub collect_of : (Kind → Functions) → State → ℕ → ℕ → PlainTask → Outcome
 collect_of f s k start task =
     if not (nat_eq (start % task.precision) 0) then refused s k cause.Start
-    else (if is_due f s task start then (with_batch s task.name start, collection_of f s task start ∷ [])
+    else (if is_due f s task start then (record s { collected = with_batch s.collected task.name start }, collection_of f s task start ∷ [])
     else (s, Small task.name start (length (contents_in f task start s.accepted)) ∷ []))
 
 -- ---- lines

@@ -1,0 +1,4 @@
+pub mod Direct
+pub mod Prepared
+pub mod Report
+pub mod Sums

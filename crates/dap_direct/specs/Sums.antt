@@ -1,0 +1,80 @@
+-- The sums of batches.
+use Rattle.std.specs.Prelude.{◌≡◌, ◌⊎◌, ℕ, ◌+◌, ◌<◌, List, [], ◌∷◌, ◌++◌, length, Bool, ◌&&◌, nat_eq, Option, Some, None}
+use Rattle.std.specs.List.{find, position_or_len}
+use Rattle.std.specs.Str.{bytes_eq}
+use Rattle.vdaf_api.specs.Functions.{Functions}
+use Rattle.vdaf_api.specs.Totals.{total_numbers}
+use Rattle.vdaf_api.specs.Vectors.{IsOut, numbers, plus}
+use Rattle.vdaf_api.specs.declared.answer.Answer.{Answer}
+use Rattle.vdaf_api.specs.declared.kind.Kind.{Kind}
+use Rattle.dap_tasks.specs.Task.{PlainTask}
+use Rattle.dap_model.specs.State.{Accepted, contents_in, rejected_in}
+use Rattle.dap_direct.specs.declared.prepared.OutShares.{OutShares}
+use Rattle.dap_direct.specs.declared.sums.Sums.{Sums}
+
+-- the sums are those of this task's batch that starts there
+abbrev pub is_of : List ℕ → ℕ → Sums → Bool
+is_of name start s = bytes_eq s.task name && nat_eq s.start start
+
+-- two sums of out shares that add to the sum of these contents, whose number is counted, beside so many rejected reports
+pub record AreSums (g : Functions) (contents : List (List ℕ)) (rejected : ℕ) (s : Sums) : Type 0 where
+  pub leader : IsOut g.space s.leader.items
+  pub helper : IsOut g.space s.helper.items
+  pub sum : numbers g.space (plus g.space s.leader.items s.helper.items) ≡ total_numbers g.space contents
+  pub counted : s.reports ≡ length contents
+  pub barred : s.rejected ≡ rejected
+
+-- the sums of a batch, which there need not be as long as it has no report
+abbrev pub AreSumsOf : Functions → List (List ℕ) → ℕ → Option Sums → Type 0
+AreSumsOf g contents rejected None = (contents ≡ []) × (rejected ≡ 0)
+AreSumsOf g contents rejected (Some s) = AreSums g contents rejected s
+
+-- each batch of the task has its sums
+abbrev pub IsSummed : (Kind → Functions) → PlainTask → List Accepted → List Sums → Type 0
+IsSummed f task accepted sums =
+    (start : ℕ) → AreSumsOf (f task.kind) (contents_in f task start accepted) (rejected_in f task start accepted) (find (is_of task.name start) sums)
+
+-- the answer of the two sums
+abbrev pub answer_of : Functions → Sums → Answer
+answer_of g s = g.answer (numbers g.space (plus g.space s.leader.items s.helper.items))
+
+-- ---- what the calls do
+
+-- the content of a report with these out shares, and none where its verdict is failed
+abbrev pub content_with : Functions → Option OutShares → Option (List ℕ)
+content_with g None = None
+content_with g (Some outs) = Some (numbers g.space (plus g.space outs.leader.items outs.helper.items))
+
+-- both are out shares
+abbrev pub AreOutShares : Functions → Option OutShares → Type 0
+AreOutShares g None = Unit {0}
+AreOutShares g (Some outs) = IsOut g.space outs.leader.items × IsOut g.space outs.helper.items
+
+-- a report's out shares are added
+pub record AddsOuts (g : Functions) (outs : OutShares) (old new : Sums) : Type 0 where
+  pub task : new.task ≡ old.task
+  pub start : new.start ≡ old.start
+  pub leader : new.leader.items ≡ plus g.space old.leader.items outs.leader.items
+  pub helper : new.helper.items ≡ plus g.space old.helper.items outs.helper.items
+  pub reports : new.reports ≡ old.reports + 1
+  pub rejected : new.rejected ≡ old.rejected
+
+-- a report is counted, with its out shares or as a rejected one
+abbrev pub Counts : Functions → Option OutShares → Sums → Sums → Type 0
+Counts g None old new = new ≡ record old { rejected = old.rejected + 1 }
+Counts g (Some outs) old new = AddsOuts g outs old new
+
+-- sums of no report stand behind the others, among which the batch has none
+pub record AddsNone (g : Functions) (name : List ℕ) (start : ℕ) (old new : List Sums) : Type 0 where
+  pub added : Sums
+  pub grown : new ≡ old ++ added ∷ []
+  pub missing : position_or_len (is_of name start) old ≡ length old
+  pub of_task : added.task ≡ name
+  pub of_start : added.start ≡ start
+  pub sums : AreSums g [] 0 added
+
+-- the batch's sums stand at this place, where they stood before or were added
+pub record IsReady (g : Functions) (name : List ℕ) (start : ℕ) (old new : List Sums) (place : ℕ) : Type 0 where
+  pub within : place < length new
+  pub at : position_or_len (is_of name start) new ≡ place
+  pub kept : (new ≡ old) ⊎ AddsNone g name start old new
