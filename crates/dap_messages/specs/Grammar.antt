@@ -1,14 +1,11 @@
 -- How values stand in bytes. One table of fields gives both the reading and the spelling.
-use Rattle.std.specs.Prelude.{◌≡◌, ℕ, zero, suc, ◌+◌, ◌*◌, Bool, true, false, ◌&&◌, nat_le, nat_eq, ◌==◌, if◌then◌else◌, List, [], ◌∷◌, ◌++◌, length, slice_get, Option, Some, None, Result, Ok, Err}
+use Rattle.std.specs.Prelude.{ℕ, zero, suc, ◌+◌, ◌*◌, Bool, true, false, ◌&&◌, nat_le, nat_eq, if◌then◌else◌, List, [], ◌∷◌, ◌++◌, length, slice_get, Option, Some, None, Result, Ok, Err}
 use Rattle.std.specs.List.{list_all, flat_map}
 use Rattle.std.specs.Int.{Width, w16, w32, byte_len, to_be_bytes}
 use Rattle.std.specs.Ordering.{nat_cmp, is_lt}
 use Rattle.std.specs.Cmp.Lexicographic.{slice_cmp}
 use Rattle.dap_bytes.specs.Cursor.{Reading, rest_of, next_bytes, next_number, past}
 use Rattle.dap_bytes.specs.Name.{is_name_char}
-use Rattle.dap_messages.specs.declared.fault.Form.{Form}
-use Rattle.dap_messages.specs.declared.fault.ReadFault.{ReadFault}
-use Rattle.dap_messages.specs.declared.fault.ReadFault.TheVariants as faults
 use Rattle.dap_messages.specs.declared.item.Tagged.{Tagged}
 
 -- how the values of a type stand in bytes: read answers the value at a place and the place behind it, or the place of the first fault; spell is a value's one spelling; allowed tells which values have one; no spelling has more than most bytes
@@ -82,6 +79,10 @@ cells n test = record {
 -- any bytes
 abbrev pub any_text : List ℕ → Bool
 any_text text = true
+
+-- no bytes
+abbrev pub nothing : Grammar (Unit {0})
+nothing = record { read = λ r. Ok (tt, r); spell = λ _. []; allowed = λ _. true; most = 0 }
 
 -- ---- several fields
 
@@ -217,22 +218,3 @@ ended x = if nat_eq (length (rest_of x.1)) 0 then Ok x.0 else Err x.1.place
 -- the value that an input spells as a whole, or the place of the first fault
 abbrev pub whole : {A : Type 0} → Grammar A → List ℕ → Result A ℕ
 whole g input = g.read (record { input = input; place = 0 }) >>= ended
-
--- ---- what the readers of the code answer
-
--- a field's reader
-abbrev pub Finds : {A : Type 0} → Grammar A → Reading → Result A Form → Reading → Type 0
-Finds g old (Ok x) new = g.read old ≡ Ok (x, new)
-Finds g old (Err form) new = g.read old ≡ Err form.at
-
--- a reader that may run out of memory
-abbrev pub Gives : {A : Type 0} → Grammar A → Reading → Result A ReadFault → Reading → Type 0
-Gives g old (Ok x) new = g.read old ≡ Ok (x, new)
-Gives g old (Err (faults.Form at)) new = g.read old ≡ Err at
-Gives g old (Err faults.NoMemory) new = Unit {0}
-
--- a reader of a whole input
-abbrev pub Reads : {A : Type 0} → Grammar A → List ℕ → Result A ReadFault → Type 0
-Reads g input (Ok x) = whole g input ≡ Ok x
-Reads g input (Err (faults.Form at)) = whole g input ≡ Err at
-Reads g input (Err faults.NoMemory) = Unit {0}

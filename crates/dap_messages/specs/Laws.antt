@@ -1,19 +1,20 @@
 -- Lemmas: what a grammar reads is spelled so, what is spelled so is read, and spellings are bounded.
-use Rattle.std.proofs.Common.{◌≡◌, ℕ, zero, suc, ◌+◌, ◌*◌, ◌^◌, ◌<◌, ◌≤◌, Bool, true, false, ◌&&◌, cond, List, [], ◌∷◌, ◌++◌, length, get_or, take, drop, Option, Some, None, Result, Ok, Err, refl, sym, ap, subst, ◌∙◌, append_assoc, arith}
-use Rattle.std.specs.Prelude.{nat_eq, nat_le, slice_get, option_map}
-use Rattle.std.specs.List.{list_all, flat_map}
+use Rattle.std.proofs.Common.{◌≡◌, ℕ, zero, suc, ◌+◌, ◌*◌, ◌<◌, ◌≤◌, Bool, true, false, ◌&&◌, cond, List, [], ◌∷◌, ◌++◌, length, get_or, take, drop, Option, Some, None, Result, Ok, Err, refl, sym, ap, subst, ◌∙◌, append_assoc, arith}
+use Rattle.std.specs.Prelude.{nat_eq, nat_le, slice_get, option_map, IfOk}
 use Rattle.std.specs.Int.{Width, w16, w32, w64, byte_len, from_be_bytes, to_be_bytes}
 use Rattle.std.proofs.lemmas.Bool.{leb-true, le-leb, eqb-true, eq-eqb}
-use Rattle.std.proofs.lemmas.List.{take_at, drop_at, take-append-drop, length-append, length-take, length-drop, drop-drop, get_or-drop, get_or-take, get_or_past, append-nil, nil_from_length}
+use Rattle.std.proofs.lemmas.List.{take_at, drop_at, take-append-drop, length-append, length-take, drop-drop, get_or-drop, get_or-take, get_or_past, append-nil, nil_from_length}
 use Rattle.std.proofs.lemmas.List.Concat.{flat_map-cons}
 use Rattle.std.proofs.lemmas.Bool.{cases_lt}
 use Rattle.std.proofs.Common.{inl, inr}
 use Rattle.std.proofs.Math.Nat.{mul-le-mul_right}
-use Rattle.std.proofs.lemmas.Nat.{be_bytes_2, be_bytes_4, be_bytes_8, from_be_bytes-to_be_bytes_2, from_be_bytes-to_be_bytes_4, from_be_bytes-to_be_bytes_8}
+use Rattle.std.proofs.lemmas.Nat.{be_bytes_2, be_bytes_4, be_bytes_8, from_be_bytes-to_be_bytes_2}
 use Rattle.dap_bytes.specs.Cursor.{Reading, rest_of, has_bytes, next_bytes, next_number, past}
-use Rattle.dap_bytes.specs.Name.{is_name_char}
 use Rattle.dap_messages.specs.declared.item.Tagged.{Tagged}
-use Rattle.dap_messages.specs.Grammar.{Grammar, ◌>>=◌, accepted, field, where_holds, is_between, number, byte, coded, cells, any_text, ◌⊗◌, fixed, shaped, spell_some, allowed_some, variant, sized, bytes, name, read_chosen, read_by, spell_chosen, allowed_chosen, by_first, is_above, item, items_at, spell_items, allowed_items, items, ended, whole}
+use Rattle.dap_messages.specs.declared.fault.ReadFault.{ReadFault}
+use Rattle.dap_messages.specs.declared.fault.ReadFault.TheVariants as faults
+use Rattle.dap_messages.specs.Spelled.{Reads, IsOnly}
+use Rattle.dap_messages.specs.Grammar.{Grammar, ◌>>=◌, accepted, field, where_holds, is_between, number, byte, coded, cells, nothing, ◌⊗◌, fixed, shaped, spell_some, allowed_some, variant, sized, read_chosen, read_by, spell_chosen, allowed_chosen, by_first, is_above, item, items_at, spell_items, allowed_items, items, ended, whole}
 
 -- ---- what a grammar has to keep
 
@@ -42,7 +43,7 @@ pub bind_ok : {A B : Type 0} (r : Result A ℕ) (f : A → Result B ℕ) (y : B)
 bind_ok (Ok x) f y e = (x, refl, e)
 bind_ok (Err d) f y e = absurd cc
 
-abbrev done : {A : Type 0} → A → Result A ℕ
+abbrev pub done : {A : Type 0} → A → Result A ℕ
 done x = Ok x
 
 pub ok_is : {A : Type 0} (x y : A) → done x ≡ done y → x ≡ y
@@ -51,7 +52,7 @@ ok_is x y e = cc
 abbrev just : {A : Type 0} → A → Option A
 just x = Some x
 
-some_is : {A : Type 0} (x y : A) → just x ≡ just y → x ≡ y
+pub some_is : {A : Type 0} (x y : A) → just x ≡ just y → x ≡ y
 some_is x y e = cc
 
 pub and_parts : (a b : Bool) → (a && b) ≡ true → (a ≡ true) × (b ≡ true)
@@ -62,24 +63,24 @@ and_parts false b e = absurd cc
 pub both_true : (a b : Bool) → a ≡ true → b ≡ true → (a && b) ≡ true
 both_true a b p q = rw (p, q) refl
 
-if_some : {A : Type 0} (b : Bool) (x y : A) → cond b (Some x) None ≡ Some y → (b ≡ true) × (x ≡ y)
+pub if_some : {A : Type 0} (b : Bool) (x y : A) → cond b (Some x) None ≡ Some y → (b ≡ true) × (x ≡ y)
 if_some true x y e = (refl, cc)
 if_some false x y e = absurd cc
 
 -- ---- places
 
-input_stays : (r : Reading) (text : List ℕ) (s : Reading) → IsInput r → Takes r text s → IsInput s
+pub input_stays : (r : Reading) (text : List ℕ) (s : Reading) → IsInput r → Takes r text s → IsInput s
 input_stays r text s h t = subst IsInput (sym t.moved) h
 
 pub Takes-then : (a : Reading) (x : List ℕ) (b : Reading) (y : List ℕ) (c : Reading) → Takes a x b → Takes b y c → Takes a (x ++ y) c
 Takes-then a x b y c p q =
     let places : (a.place + length x) + length y ≡ a.place + length (x ++ y) = omega (arith, length-append x y) in
     record {
-        rest = p.rest ∙ ap (λ (t : List ℕ). x ++ t) q.rest ∙ sym (append_assoc x y (rest_of c));
-        moved = q.moved ∙ ap (further (length y)) p.moved ∙ ap (λ (n : ℕ). let s : Reading = record { input = a.input; place = n } in s) places;
+      rest = p.rest ∙ ap (λ (t : List ℕ). x ++ t) q.rest ∙ sym (append_assoc x y (rest_of c));
+      moved = q.moved ∙ ap (further (length y)) p.moved ∙ ap (λ (n : ℕ). let s : Reading = record { input = a.input; place = n } in s) places;
     }
 
-Takes-nothing : (a : Reading) → Takes a [] a
+pub Takes-nothing : (a : Reading) → Takes a [] a
 Takes-nothing a =
     record { rest = refl; moved = ap (λ (n : ℕ). let s : Reading = record { input = a.input; place = n } in s) (omega arith) }
 
@@ -87,12 +88,19 @@ pub rest_further : (r : Reading) (text rest : List ℕ) → rest_of r ≡ text +
 rest_further r text rest e =
     sym (drop-drop (length text) r.place r.input) ∙ ap (drop (length text)) e ∙ drop_at text rest (length text) refl
 
-further-then : (r : Reading) (x y : List ℕ) → further (length y) (further (length x) r) ≡ further (length (x ++ y)) r
+pub further-then : (r : Reading) (x y : List ℕ) → further (length y) (further (length x) r) ≡ further (length (x ++ y)) r
 further-then r x y =
     let places : (r.place + length x) + length y ≡ r.place + length (x ++ y) = omega (arith, length-append x y) in
     ap (λ (n : ℕ). let s : Reading = record { input = r.input; place = n } in s) places
 
 -- ---- the next bytes
+
+-- the input is the same further on
+pub input_past : (n : ℕ) (r : Reading) → (past n r).input ≡ r.input
+input_past n r = go (has_bytes n r) where
+  go : (b : Bool) → (let s : Reading = cond b (further n r) r in s).input ≡ r.input
+  go true = refl
+  go false = refl
 
 past_is : (n : ℕ) (r : Reading) → has_bytes n r ≡ true → past n r ≡ further n r
 past_is n r e = rw e refl
@@ -103,10 +111,10 @@ takes_next n r text e =
     let long : n ≤ length (rest_of r) = leb-true n (length (rest_of r)) g.0 in
     let len : length (take n (rest_of r)) ≡ n = omega (arith, length-take n (rest_of r)) in
     let parts : rest_of r ≡ take n (rest_of r) ++ rest_of (further n r) =
-        sym (take-append-drop n (rest_of r)) ∙ ap (λ (t : List ℕ). take n (rest_of r) ++ t) (drop-drop n r.place r.input) in
+    sym (take-append-drop n (rest_of r)) ∙ ap (λ (t : List ℕ). take n (rest_of r) ++ t) (drop-drop n r.place r.input) in
     let moved : past n r ≡ further (length (take n (rest_of r))) r = past_is n r g.0 ∙ ap (λ (k : ℕ). further k r) (sym len) in
     let taken : Takes r (take n (rest_of r)) (past n r) =
-        record { rest = parts ∙ ap (λ (s : Reading). take n (rest_of r) ++ rest_of s) (sym (past_is n r g.0)); moved = moved } in
+    record { rest = parts ∙ ap (λ (s : Reading). take n (rest_of r) ++ rest_of s) (sym (past_is n r g.0)); moved = moved } in
     subst (λ (t : List ℕ). Takes r t (past n r) × (length t ≡ n)) g.1 (taken, len)
 
 next_again : (r : Reading) (text rest : List ℕ) (n : ℕ) → length text ≡ n → rest_of r ≡ text ++ rest → (next_bytes n r ≡ Some text) × (past n r ≡ further (length text) r)
@@ -118,13 +126,13 @@ first_ok : (text : List ℕ) (b : ℕ) → slice_get text 0 ≡ Some b → (rest
 first_ok [] b e = absurd cc
 first_ok (c ∷ rest) b e = (rest, ap (λ (d : ℕ). d ∷ rest) (some_is c b e))
 
-takes_first : (r : Reading) (b : ℕ) → slice_get (rest_of r) 0 ≡ Some b → Takes r (b ∷ []) (past 1 r)
+pub takes_first : (r : Reading) (b : ℕ) → slice_get (rest_of r) 0 ≡ Some b → Takes r (b ∷ []) (past 1 r)
 takes_first r b e =
     let f = first_ok (rest_of r) b e in
     let n = next_again r (b ∷ []) f.0 1 refl f.1 in
     (takes_next 1 r (b ∷ []) n.0).0
 
-first_again : (r : Reading) (b : ℕ) (rest : List ℕ) → rest_of r ≡ b ∷ rest → (slice_get (rest_of r) 0 ≡ Some b) × (past 1 r ≡ further 1 r)
+pub first_again : (r : Reading) (b : ℕ) (rest : List ℕ) → rest_of r ≡ b ∷ rest → (slice_get (rest_of r) 0 ≡ Some b) × (past 1 r ≡ further 1 r)
 first_again r b rest e = (rw e refl, (next_again r (b ∷ []) rest 1 refl e).1)
 
 -- ---- fields
@@ -134,16 +142,16 @@ accepted_ok len r None y s e = absurd cc
 accepted_ok {B = B} len r (Some x) y s e =
     let p = ok_is (x, past len r) (y, s) e in (ap (λ (q : B × Reading). just q.0) p, ap (λ (q : B × Reading). q.1) p)
 
-field_ok : {A B : Type 0} (len : ℕ) (meaning : A → Option B) (r : Reading) (next : Option A) (y : B) (s : Reading) → field len meaning r next ≡ Ok (y, s) → (x : A) × (next ≡ Some x) × (meaning x ≡ Some y) × (past len r ≡ s)
+pub field_ok : {A B : Type 0} (len : ℕ) (meaning : A → Option B) (r : Reading) (next : Option A) (y : B) (s : Reading) → field len meaning r next ≡ Ok (y, s) → (x : A) × (next ≡ Some x) × (meaning x ≡ Some y) × (past len r ≡ s)
 field_ok len meaning r None y s e = absurd cc
 field_ok len meaning r (Some x) y s e =
     let a = accepted_ok len r (meaning x) y s e in (x, refl, a.0, a.1)
 
-field_again : {A B : Type 0} (len : ℕ) (meaning : A → Option B) (r : Reading) (next : Option A) (x : A) (y : B) (s : Reading) → next ≡ Some x → meaning x ≡ Some y → past len r ≡ s → field len meaning r next ≡ Ok (y, s)
+pub field_again : {A B : Type 0} (len : ℕ) (meaning : A → Option B) (r : Reading) (next : Option A) (x : A) (y : B) (s : Reading) → next ≡ Some x → meaning x ≡ Some y → past len r ≡ s → field len meaning r next ≡ Ok (y, s)
 field_again {B = B} len meaning r next x y s e m p =
     ap (field len meaning r) e ∙ ap (accepted len r) m ∙ ap (λ (q : Reading). let z : B × Reading = (y, q) in done z) p
 
-where_again : {A : Type 0} (test : A → Bool) (x : A) → test x ≡ true → where_holds test x ≡ Some x
+pub where_again : {A : Type 0} (test : A → Bool) (x : A) → test x ≡ true → where_holds test x ≡ Some x
 where_again test x e = rw e refl
 
 -- numbers of a width, as bytes and back
@@ -168,7 +176,7 @@ rest_fits : (r : Reading) (text : List ℕ) (rest : List ℕ) → IsInput r → 
 rest_fits r text rest h e i =
     elim (cases_lt i (length text)) [
       | inl lt ↦ let front : take (length text) (rest_of r) ≡ text = ap (take (length text)) e ∙ take_at text rest (length text) refl in
-        subst (λ (t : List ℕ). get_or t i 0 < 256) front (rw (get_or-take (length text) (rest_of r) i 0 lt, get_or-drop) (h (r.place + i)))
+          subst (λ (t : List ℕ). get_or t i 0 < 256) front (rw (get_or-take (length text) (rest_of r) i 0 lt, get_or-drop) (h (r.place + i)))
       | inr le ↦ rw (get_or_past text i 0 le) (omega arith)
     ]
 
@@ -180,15 +188,16 @@ number_lawful w low high wide round = record {
       let t = number_next w r f.0 (next_bytes (byte_len w) r) refl f.1 in
       let took = takes_next (byte_len w) r t.0 t.1 in
       let text_is : t.0 ≡ to_be_bytes w n =
-          sym (wide.back t.0 took.1 (rest_fits r t.0 (rest_of (past (byte_len w) r)) h took.0.rest)) ∙ ap (to_be_bytes w) (t.2 ∙ m.1) in
-      (subst (λ (p : Reading). Takes r (to_be_bytes w n) p) f.3 (subst (λ (x : List ℕ). Takes r x (past (byte_len w) r)) text_is took.0),
-       subst (λ (k : ℕ). is_between low high k ≡ true) m.1 m.0);
+      sym (wide.back t.0 took.1 (rest_fits r t.0 (rest_of (past (byte_len w) r)) h took.0.rest)) ∙ ap (to_be_bytes w) (t.2 ∙ m.1) in (
+        subst (λ (p : Reading). Takes r (to_be_bytes w n) p) f.3 (subst (λ (x : List ℕ). Takes r x (past (byte_len w) r)) text_is took.0),
+        subst (λ (k : ℕ). is_between low high k ≡ true) m.1 m.0,
+      );
   again = λ n r rest a e.
       let next = next_again r (to_be_bytes w n) rest (byte_len w) (wide.len n) e in
       let high_is : n ≤ high = leb-true n high (and_parts (nat_le low n) (nat_le n high) a).1 in
       let number_is : next_number w r ≡ Some n = ap (option_map (from_be_bytes w)) next.0 ∙ ap (λ (k : ℕ). just k) (round n high_is) in
       field_again (byte_len w) (where_holds (is_between low high)) r (next_number w r) n n (further (length (to_be_bytes w n)) r) number_is
-          (where_again (is_between low high) n a) next.1;
+      (where_again (is_between low high) n a) next.1;
   within = λ n a. omega (arith, wide.len n);
 }
 
@@ -197,9 +206,10 @@ byte_lawful low high = record {
   takes = λ r n s h e.
       let f = field_ok 1 (where_holds (is_between low high)) r (slice_get (rest_of r) 0) n s e in
       let m = if_some (is_between low high f.0) f.0 n f.2 in
-      let took = takes_first r f.0 f.1 in
-      (subst (λ (p : Reading). Takes r (n ∷ []) p) f.3 (subst (λ (k : ℕ). Takes r (k ∷ []) (past 1 r)) m.1 took),
-       subst (λ (k : ℕ). is_between low high k ≡ true) m.1 m.0);
+      let took = takes_first r f.0 f.1 in (
+        subst (λ (p : Reading). Takes r (n ∷ []) p) f.3 (subst (λ (k : ℕ). Takes r (k ∷ []) (past 1 r)) m.1 took),
+        subst (λ (k : ℕ). is_between low high k ≡ true) m.1 m.0,
+      );
   again = λ n r rest a e.
       let next = first_again r n rest e in
       field_again 1 (where_holds (is_between low high)) r (slice_get (rest_of r) 0) n n (further 1 r) next.0 (where_again (is_between low high) n a) next.1;
@@ -223,14 +233,24 @@ cells_lawful n test = record {
   takes = λ r text s h e.
       let f = field_ok n (where_holds test) r (next_bytes n r) text s e in
       let m = if_some (test f.0) f.0 text f.2 in
-      let took = takes_next n r f.0 f.1 in
-      (subst (λ (p : Reading). Takes r text p) f.3 (subst (λ (x : List ℕ). Takes r x (past n r)) m.1 took.0),
-       both_true (nat_eq (length text) n) (test text) (eq-eqb (length text) n (ap (λ (x : List ℕ). length x) (sym m.1) ∙ took.1)) (subst (λ (x : List ℕ). test x ≡ true) m.1 m.0));
+      let took = takes_next n r f.0 f.1 in (
+        subst (λ (p : Reading). Takes r text p) f.3 (subst (λ (x : List ℕ). Takes r x (past n r)) m.1 took.0),
+        both_true (nat_eq (length text) n) (test text) (eq-eqb (length text) n (ap (λ (x : List ℕ). length x) (sym m.1) ∙ took.1)) (subst (λ (x : List ℕ). test x ≡ true) m.1 m.0),
+      );
   again = λ text r rest a e.
       let parts = and_parts (nat_eq (length text) n) (test text) a in
       let next = next_again r text rest n (eqb-true (length text) n parts.0) e in
       field_again n (where_holds test) r (next_bytes n r) text text (further (length text) r) next.0 (where_again test text parts.1) next.1;
   within = λ text a. omega (arith, eqb-true (length text) n (and_parts (nat_eq (length text) n) (test text) a).0);
+}
+
+pub nothing_lawful : Lawful nothing
+nothing_lawful = record {
+  takes = λ r x s h e.
+      let made : Unit {0} × Reading = (tt, r) in
+      subst (λ (q : Unit {0} × Reading). Takes r [] q.1 × (true ≡ true)) (ok_is made (x, s) e) (Takes-nothing r, refl);
+  again = λ x r rest a e. ap (λ (p : Reading). let z : Unit {0} × Reading = (x, p) in done z) (Takes-nothing r).moved;
+  within = λ x a. omega arith;
 }
 
 -- ---- several fields
@@ -244,7 +264,7 @@ then_lawful {A} {B} g h lg lh = record {
       let second = lh.takes a.0.1 b.0.0 b.0.1 (input_stays r (g.spell a.0.0) a.0.1 i first.0) b.1 in
       let made : (A × B) × Reading = ((a.0.0, b.0.0), b.0.1) in
       subst (λ (q : (A × B) × Reading). Takes r (g.spell q.0.0 ++ h.spell q.0.1) q.1 × ((g.allowed q.0.0 && h.allowed q.0.1) ≡ true)) (ok_is made (p, s) b.2)
-          (Takes-then r (g.spell a.0.0) a.0.1 (h.spell b.0.0) b.0.1 first.0 second.0, both_true (g.allowed a.0.0) (h.allowed b.0.0) first.1 second.1);
+      (Takes-then r (g.spell a.0.0) a.0.1 (h.spell b.0.0) b.0.1 first.0 second.0, both_true (g.allowed a.0.0) (h.allowed b.0.0) first.1 second.1);
   again = λ p r rest a e.
       let parts = and_parts (g.allowed p.0) (h.allowed p.1) a in
       let whole_is : rest_of r ≡ g.spell p.0 ++ (h.spell p.1 ++ rest) = e ∙ append_assoc (g.spell p.0) (h.spell p.1) rest in
@@ -278,7 +298,7 @@ shaped_lawful {A} {B} to from g back round lg = record {
       let first = lg.takes r a.0.0 a.0.1 i a.1 in
       let made : B × Reading = (to a.0.0, a.0.1) in
       subst (λ (q : B × Reading). Takes r (g.spell (from q.0)) q.1 × (g.allowed (from q.0) ≡ true)) (ok_is made (b, s) a.2)
-          (subst (λ (x : A). Takes r (g.spell x) a.0.1 × (g.allowed x ≡ true)) (sym (back a.0.0)) first);
+      (subst (λ (x : A). Takes r (g.spell x) a.0.1 × (g.allowed x ≡ true)) (sym (back a.0.0)) first);
   again = λ b r rest a e. rw (lg.again (from b) r rest a e, round b) refl;
   within = λ b a. lg.within (from b) a;
 }
@@ -290,7 +310,7 @@ variant_lawful {A} {B} to from g back only lg = record {
       let first = lg.takes r a.0.0 a.0.1 i a.1 in
       let made : B × Reading = (to a.0.0, a.0.1) in
       subst (λ (q : B × Reading). Takes r (spell_some g (from q.0)) q.1 × (allowed_some g (from q.0) ≡ true)) (ok_is made (b, s) a.2)
-          (subst (λ (o : Option A). Takes r (spell_some g o) a.0.1 × (allowed_some g o ≡ true)) (sym (back a.0.0)) first);
+      (subst (λ (o : Option A). Takes r (spell_some g o) a.0.1 × (allowed_some g o ≡ true)) (sym (back a.0.0)) first);
   again = λ b r rest a e. variant_again b r rest (from b) refl a e;
   within = λ b a. variant_within b (from b) a;
 } where
@@ -312,7 +332,7 @@ sized_lawful len longest test bound ll = record {
       let parts = and_parts (nat_eq (length text) a.0.0) (test text) second.1 in
       let len_is : a.0.0 ≡ length text = sym (eqb-true (length text) a.0.0 parts.0) in
       subst (λ (n : ℕ). Takes r (len.spell n ++ text) s × ((len.allowed n && test text) ≡ true)) len_is
-          (Takes-then r (len.spell a.0.0) a.0.1 text s first.0 second.0, both_true (len.allowed a.0.0) (test text) first.1 parts.1);
+      (Takes-then r (len.spell a.0.0) a.0.1 text s first.0 second.0, both_true (len.allowed a.0.0) (test text) first.1 parts.1);
   again = λ text r rest a e.
       let parts = and_parts (len.allowed (length text)) (test text) a in
       let whole_is : rest_of r ≡ len.spell (length text) ++ (text ++ rest) = e ∙ append_assoc (len.spell (length text)) text rest in
@@ -349,7 +369,7 @@ by_first_takes {A} first_of choose longest choices r x s i b is (Some g) c e =
     let both : Takes r (b ∷ spell_chosen (Some g) x) s = Takes-then r (b ∷ []) (past 1 r) (g.spell x) s tag body.0 in
     let stands : b ≡ first_of x = sym (choice.stands x body.1) in
     subst (λ (k : ℕ). Takes r (k ∷ spell_chosen (choose k) x) s × (allowed_chosen (choose k) x ≡ true)) stands
-        (subst (λ (o : Option (Grammar A)). Takes r (b ∷ spell_chosen o x) s × (allowed_chosen o x ≡ true)) (sym c) (both, body.1))
+    (subst (λ (o : Option (Grammar A)). Takes r (b ∷ spell_chosen o x) s × (allowed_chosen o x ≡ true)) (sym c) (both, body.1))
 
 by_first_read : {A : Type 0} (choose : ℕ → Option (Grammar A)) (r : Reading) (x : A) (s : Reading) (next : Option ℕ) → slice_get (rest_of r) 0 ≡ next → read_by choose r next ≡ Ok (x, s)
     → (b : ℕ) × (slice_get (rest_of r) 0 ≡ Some b) × (read_chosen r (choose b) ≡ Ok (x, s))
@@ -402,7 +422,7 @@ none_of first_of longest b h e = absurd cc
 pub item_lawful : {B : Type 0} (g : Grammar B) (last : Option (List ℕ)) → Lawful g → Lawful (item g last)
 item_lawful g last lg =
     shaped_lawful (λ p. record { id = p.0; body = p.1 }) (λ x. (x.id, x.body)) (cells 16 (is_above last) ⊗ g) (λ p. refl) (λ x. refl)
-        (then_lawful (cells 16 (is_above last)) g (cells_lawful 16 (is_above last)) lg)
+    (then_lawful (cells 16 (is_above last)) g (cells_lawful 16 (is_above last)) lg)
 
 items_take : {B : Type 0} (g : Grammar B) → Lawful g → (n : ℕ) (last : Option (List ℕ)) (r : Reading) (xs : List (Tagged B)) (s : Reading) → IsInput r → items_at g last n r ≡ Ok (xs, s)
     → Takes r (spell_items g xs) s × (length xs ≡ n) × (allowed_items g last xs ≡ true)
@@ -417,7 +437,7 @@ items_take {B} g lg (suc n) last r xs s i e =
     let both = Takes-then r ((item g last).spell a.0.0) a.0.1 (spell_items g b.0.0) b.0.1 first.0 second.0 in
     let made : List (Tagged B) × Reading = (a.0.0 ∷ b.0.0, b.0.1) in
     subst (λ (q : List (Tagged B) × Reading). Takes r (spell_items g q.0) q.1 × (length q.0 ≡ suc n) × (allowed_items g last q.0 ≡ true)) (ok_is made (xs, s) b.2)
-        (rw flat_map-cons both, ap suc second.1, both_true ((item g last).allowed a.0.0) (allowed_items g (Some a.0.0.id) b.0.0) first.1 second.2)
+    (rw flat_map-cons both, ap suc second.1, both_true ((item g last).allowed a.0.0) (allowed_items g (Some a.0.0.id) b.0.0) first.1 second.2)
 
 items_again : {B : Type 0} (g : Grammar B) → Lawful g → (xs : List (Tagged B)) (last : Option (List ℕ)) (r : Reading) (rest : List ℕ) → allowed_items g last xs ≡ true → rest_of r ≡ spell_items g xs ++ rest
     → items_at g last (length xs) r ≡ Ok (xs, further (length (spell_items g xs)) r)
@@ -431,7 +451,7 @@ items_again {B} g lg (x ∷ xs) last r rest a e =
     let first = (item_lawful g last lg).again x r (spell_items g xs ++ rest) parts.0 whole_is in
     let second = items_again g lg xs (Some x.id) (further (length one) r) rest parts.1 (rest_further r one (spell_items g xs ++ rest) whole_is) in
     let end_is : further (length (spell_items g xs)) (further (length one) r) ≡ further (length (spell_items g (x ∷ xs))) r =
-        further-then r one (spell_items g xs) ∙ ap (λ (t : List ℕ). further (length t) r) (sym cons_is) in
+    further-then r one (spell_items g xs) ∙ ap (λ (t : List ℕ). further (length t) r) (sym cons_is) in
     rw (first, second) (ap (λ (p : Reading). let z : List (Tagged B) × Reading = (x ∷ xs, p) in done z) end_is)
 
 items_within : {B : Type 0} (g : Grammar B) → Lawful g → (xs : List (Tagged B)) (last : Option (List ℕ)) → allowed_items g last xs ≡ true → length (spell_items g xs) ≤ length xs * (16 + g.most)
@@ -440,7 +460,7 @@ items_within g lg (x ∷ xs) last a =
     let parts = and_parts ((item g last).allowed x) (allowed_items g (Some x.id) xs) a in
     let one = (item g last).spell x in
     let cons_is : length (spell_items g (x ∷ xs)) ≡ length one + length (spell_items g xs) =
-        ap (λ (t : List ℕ). length t) (flat_map-cons (item g None).spell x xs) ∙ length-append one (spell_items g xs) in
+    ap (λ (t : List ℕ). length t) (flat_map-cons (item g None).spell x xs) ∙ length-append one (spell_items g xs) in
     omega (arith, cons_is, (item_lawful g last lg).within x parts.0, items_within g lg xs (Some x.id) parts.1)
 
 pub items_lawful : {B : Type 0} (g : Grammar B) → Lawful g → Lawful (items g)
@@ -452,7 +472,7 @@ items_lawful {B} g lg = record {
       let first = lc.takes r a.0.0 a.0.1 i a.1 in
       let second = items_take g lg a.0.0 None a.0.1 xs s (input_stays r (to_be_bytes w16 a.0.0) a.0.1 i first.0) a.2 in
       subst (λ (n : ℕ). Takes r (to_be_bytes w16 n ++ spell_items g xs) s × ((is_between 1 64 n && allowed_items g None xs) ≡ true)) (sym second.1)
-          (Takes-then r (to_be_bytes w16 a.0.0) a.0.1 (spell_items g xs) s first.0 second.0, both_true (is_between 1 64 a.0.0) (allowed_items g None xs) first.1 second.2);
+      (Takes-then r (to_be_bytes w16 a.0.0) a.0.1 (spell_items g xs) s first.0 second.0, both_true (is_between 1 64 a.0.0) (allowed_items g None xs) first.1 second.2);
   again = λ xs r rest a e.
       let lc = number_lawful w16 1 64 wide16 (λ n h. from_be_bytes-to_be_bytes_2 n (omega arith)) in
       let parts = and_parts (is_between 1 64 (length xs)) (allowed_items g None xs) a in
@@ -497,3 +517,13 @@ whole_again {A} g lg x a =
     let nothing : rest_of end ≡ [] = rest_further (front (g.spell x)) (g.spell x) [] (sym (append-nil (g.spell x))) in
     let over : nat_eq (length (rest_of end)) 0 ≡ true = ap (λ (t : List ℕ). nat_eq (length t) 0) nothing in
     rw (first, over) refl
+
+-- the two laws on what a reader answered
+pub is_found : {A : Type 0} (g : Grammar A) → Lawful g → (input : List ℕ) (r : Result A ReadFault) → ((i : ℕ) → get_or input i 0 < 256) → Reads g input r → IfOk r (λ x. (g.allowed x ≡ true) × (input ≡ g.spell x))
+is_found g lg input (Ok x) h e = whole_takes g lg input x h e
+is_found g lg input (Err e) h p = tt
+
+pub is_only : {A : Type 0} (g : Grammar A) → Lawful g → (input : List ℕ) (r : Result A ReadFault) → Reads g input r → (x : A) → g.allowed x ≡ true → input ≡ g.spell x → IsOnly x r
+is_only g lg input (Ok y) e x a is = ok_is y x (sym e ∙ ap (whole g) is ∙ whole_again g lg x a)
+is_only g lg input (Err faults.NoMemory) e x a is = tt
+is_only g lg input (Err (faults.Form at)) e x a is = absurd (let p : Err at ≡ done x = sym e ∙ ap (whole g) is ∙ whole_again g lg x a in cc)

@@ -1,8 +1,14 @@
 //! Lists of items, one for each report of a job.
 
-ghost use Rattle.std.specs.Prelude.{◌≡◌, [], IsTrue, ◌↔◌, length};
+ghost use Rattle.std.specs.Prelude.{◌≡◌, ◌++◌, IsTrue, OnOk, None};
+ghost use Rattle.dap_messages.specs.Grammar.{cells, is_above, item, items_at};
+ghost use Rattle.dap_messages.specs.Spelled.{Finds, Gives, Answers};
 
-use dap_bytes::Id;
+use crate::fault::{Form, ReadFault};
+use crate::fields::{cut_off, read_u16};
+use crate::spelled::Spelled;
+use dap_bytes::{Cursor, Id, put_u16};
+use std::alloc::{AllocError, Global};
 use std::marker::Model;
 
 /// What a message or record says of one report of a job.
@@ -10,6 +16,15 @@ use std::marker::Model;
 pub struct Tagged<B> {
     pub id: Id,
     pub body: B,
+}
+
+impl<B> Tagged<B> {
+    /// The report's identifier.
+    pub fn id(&self) -> Id
+        ensures { result ≡ self.now.id }
+    {
+        self.id
+    }
 }
 
 /// The items of a message or record. Contracts see the list of them.
@@ -49,4 +64,92 @@ impl<B> Items<B> {
     {
         &self.items
     }
+}
+
+impl<B: Spelled> Spelled for Items<B> {
+    ghost use Rattle.dap_messages.specs.Grammar.{items};
+    ghost use Rattle.dap_messages.specs.Laws.{items_lawful};
+
+    ghost grammar = { items B.grammar };
+
+    ghost laws = { items_lawful B.grammar B.laws };
+
+    fn read(alloc: Global, cursor: &mut Cursor<'_>) -> Result<Self, ReadFault> {
+        let count = read_u16(cursor, 1, 64)?;
+        read_items(alloc, cursor, count)
+    }
+
+    fn put(&self, out: &mut Vec<u8>) -> Result<(), AllocError> {
+        let items = self.as_slice();
+        put_u16(out, items.len() as u16)?;
+        for one in items {
+            put_item(out, one)?;
+        }
+        Ok(())
+    }
+}
+
+/// So many items, whose identifiers ascend.
+fn read_items<B: Spelled>(
+    alloc: Global,
+    cursor: &mut Cursor<'_>,
+    count: u16,
+) -> Result<Items<B>, ReadFault>
+    ensures { Answers (items_at B.grammar None count cursor.old) result cursor.new }
+{
+    let mut items = Vec::new(alloc);
+    let mut last = None;
+    for _ in 0..count {
+        let one = read_item(alloc, cursor, last)?;
+        last = Some(one.id());
+        items.push(one)?;
+    }
+    Ok(Items::new(items))
+}
+
+/// An item whose identifier is above the last one.
+fn read_item<B: Spelled>(
+    alloc: Global,
+    cursor: &mut Cursor<'_>,
+    last: Option<Id>,
+) -> Result<Tagged<B>, ReadFault>
+    ensures { Gives (item B.grammar last) cursor.old result cursor.new }
+{
+    let id = read_id(cursor, last)?;
+    let body = B::read(alloc, cursor)?;
+    Ok(Tagged { id, body })
+}
+
+/// An identifier that is above the last one.
+#[tactic(auto, using(crate::specs::Laws::input_past))]
+fn read_id(cursor: &mut Cursor<'_>, last: Option<Id>) -> Result<Id, Form>
+    ensures { Finds (cells 16 (is_above last)) cursor.old result cursor.new }
+{
+    let at = cursor.place();
+    let Some(part) = cursor.take(16) else {
+        return Err(cut_off(cursor));
+    };
+    if !is_above(last, part) {
+        return Err(Form { at });
+    }
+    let mut id = [0; 16];
+    id.copy_from_slice(part);
+    Ok(id)
+}
+
+fn is_above(last: Option<Id>, id: &[u8]) -> bool
+    ensures { result ≡ is_above last id.now }
+{
+    match last {
+        None => true,
+        Some(last) => last.as_slice().cmp(id).is_lt(),
+    }
+}
+
+fn put_item<B: Spelled>(out: &mut Vec<u8>, one: &Tagged<B>) -> Result<(), AllocError>
+    requires { IsTrue (B.grammar.allowed one.now.body) }
+    ensures { OnOk result (out.new.items ≡ out.old.items ++ (item B.grammar None).spell one.now) }
+{
+    out.extend_from_slice(&one.id)?;
+    one.body.put(out)
 }

@@ -3,10 +3,30 @@
 //! `read_report`, `read_message`, `write_report` and `write_message`.
 #![tactic(auto)]
 
+mod body;
+mod code;
 mod fault;
+pub mod fields;
 mod item;
 mod job;
+mod laws;
+mod message;
+mod reading;
+mod reply;
+mod report;
+mod spelled;
 
+pub use body::{Half, MOST_HELPER, MOST_PREP, MOST_PUBLIC, Status, Step};
+pub use code::Code;
 pub use fault::{Form, ReadFault};
 pub use item::{Items, Tagged};
 pub use job::JobNo;
+pub use laws::{forms_are_bounded, items_ascend, spellings_are_read};
+pub use message::{Message, read_init_req};
+pub use reading::{read_message, read_report, write_message, write_report};
+pub use reply::{MOST_OUT, Reply};
+pub use report::{MOST_LEADER, Report};
+pub use spelled::{Spelled, read_all, write_all};
+
+#[cfg(test)]
+mod tests;

@@ -1,4 +1,0 @@
-pub mod ChangeLaws
-pub mod CountLaws
-pub mod MeasureLaws
-pub mod OnceLaws

@@ -1,7 +1,5 @@
-pub mod Changes
-pub mod Counts
-pub mod Kinds
 pub mod Printed
+pub mod Report
 pub mod Run
 pub mod State
 pub mod Step

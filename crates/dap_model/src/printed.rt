@@ -2,48 +2,29 @@
 
 ghost use Rattle.std.specs.Prelude.{◌≡◌, ◌++◌, OnOk};
 ghost use Rattle.std.specs.Fmt.{decimal};
+ghost use Rattle.dap_model.specs.Printed.{cause_word, numbers_text, answer_text};
 
 use dap_bytes::Name;
+use dap_tasks::Cause;
 use std::alloc::{AllocError, Global};
-
-/// What a collected batch comes to.
-#[derive(Debug, Drop)]
-pub enum Answer {
-    Count(u64),
-}
-
-/// Why a line was refused.
-#[derive(Clone, Copy, Debug, PartialEq, Eq)]
-pub enum Cause {
-    Task,
-    Value,
-    Early,
-    Conflict,
-    Collected,
-    Start,
-}
-
-/// A batch that was collected.
-#[derive(Debug, Drop)]
-pub struct Collected {
-    pub reports: u32,
-    pub rejected: u32,
-    pub answer: Answer,
-}
+use vdaf_api::{Answer, Collected};
 
 /// A line of output.
-#[derive(Debug, Drop)]
+#[derive(Debug, PartialEq, Eq, Drop)]
 pub enum Printed {
+    /// The task's batch that starts there was collected, now or before.
     Collected {
         name: Name,
         start: u64,
         what: Collected,
     },
+    /// The task's batch that starts there has too few reports to be collected.
     Small {
         name: Name,
         start: u64,
         reports: u32,
     },
+    /// The line of this number, counted from 1, was refused.
     Refused {
         line: u32,
         cause: Cause,
@@ -56,41 +37,59 @@ fn put_text(out: &mut Vec<u8>, text: &str) -> Result<(), AllocError>
     out.extend_from_slice(text.as_bytes())
 }
 
-fn put_number(alloc: Global, out: &mut Vec<u8>, number: u64) -> Result<(), AllocError>
+fn put_number(alloc: Global, out: &mut Vec<u8>, number: u128) -> Result<(), AllocError>
     ensures ok { OnOk result (out.new.items ≡ out.old.items ++ decimal number) }
 {
     let text = number.to_string(alloc)?;
     put_text(out, text.as_str())
 }
 
-impl Cause {
-    ghost use Rattle.dap_model.specs.Printed.{cause_word};
-
-    fn word(self) -> &'static str
-        ensures { result.now ≡ cause_word self }
-    {
-        match self {
-            Cause::Task => "task",
-            Cause::Value => "value",
-            Cause::Early => "early",
-            Cause::Conflict => "conflict",
-            Cause::Collected => "collected",
-            Cause::Start => "start",
-        }
+/// The word of a cause.
+fn cause_word(cause: Cause) -> &'static str
+    ensures { result.now ≡ cause_word cause }
+{
+    match cause {
+        Cause::Task => "task",
+        Cause::Form => "form",
+        Cause::Value => "value",
+        Cause::Early => "early",
+        Cause::Expired => "expired",
+        Cause::Conflict => "conflict",
+        Cause::Collected => "collected",
+        Cause::Start => "start",
     }
 }
 
-impl Answer {
-    ghost use Rattle.dap_model.specs.Printed.{answer_text};
+/// Appends the numbers with a comma between any two.
+fn put_numbers(alloc: Global, out: &mut Vec<u8>, numbers: &[u128]) -> Result<(), AllocError>
+    ensures { OnOk result (out.new.items ≡ out.old.items ++ numbers_text numbers.now) }
+{
+    let [first, rest @ ..] = numbers else {
+        return Ok(());
+    };
+    put_number(alloc, out, *first)?;
+    for number in rest {
+        put_text(out, ",")?;
+        put_number(alloc, out, *number)?;
+    }
+    Ok(())
+}
 
-    fn put(&self, alloc: Global, out: &mut Vec<u8>) -> Result<(), AllocError>
-        ensures { OnOk result (out.new.items ≡ out.old.items ++ answer_text self.now) }
-    {
-        match self {
-            Answer::Count(number) => {
-                put_text(out, " count ")?;
-                put_number(alloc, out, *number)
-            }
+fn put_answer(alloc: Global, out: &mut Vec<u8>, answer: &Answer) -> Result<(), AllocError>
+    ensures { OnOk result (out.new.items ≡ out.old.items ++ answer_text answer.now) }
+{
+    match answer {
+        Answer::Count(number) => {
+            put_text(out, " count ")?;
+            put_number(alloc, out, u128::from(*number))
+        }
+        Answer::Sum(number) => {
+            put_text(out, " sum ")?;
+            put_number(alloc, out, *number)
+        }
+        Answer::Histogram(numbers) => {
+            put_text(out, " histogram ")?;
+            put_numbers(alloc, out, numbers.as_slice())
         }
     }
 }
@@ -107,12 +106,12 @@ impl Printed {
                 put_text(out, "collected ")?;
                 out.extend_from_slice(name.as_bytes())?;
                 put_text(out, " ")?;
-                put_number(alloc, out, *start)?;
+                put_number(alloc, out, u128::from(*start))?;
                 put_text(out, " reports ")?;
-                put_number(alloc, out, u64::from(what.reports))?;
+                put_number(alloc, out, u128::from(what.reports))?;
                 put_text(out, " rejected ")?;
-                put_number(alloc, out, u64::from(what.rejected))?;
-                what.answer.put(alloc, out)
+                put_number(alloc, out, u128::from(what.rejected))?;
+                put_answer(alloc, out, &what.answer)
             }
             Printed::Small {
                 name,
@@ -122,15 +121,15 @@ impl Printed {
                 put_text(out, "small ")?;
                 out.extend_from_slice(name.as_bytes())?;
                 put_text(out, " ")?;
-                put_number(alloc, out, *start)?;
+                put_number(alloc, out, u128::from(*start))?;
                 put_text(out, " reports ")?;
-                put_number(alloc, out, u64::from(*reports))
+                put_number(alloc, out, u128::from(*reports))
             }
             Printed::Refused { line, cause } => {
                 put_text(out, "refused ")?;
-                put_number(alloc, out, u64::from(*line))?;
+                put_number(alloc, out, u128::from(*line))?;
                 put_text(out, " ")?;
-                put_text(out, cause.word())
+                put_text(out, cause_word(*cause))
             }
         }
     }

@@ -1,10 +1,2 @@
-pub mod HexLaws
-pub mod LineLaws
-pub mod NumberLaws
 pub mod NumberLemmas
-pub mod OptionLemmas
-pub mod ScriptLaws
-pub mod ScriptLemmas
-pub mod SplitLaws
-pub mod TextLaws
 pub mod TextLemmas

@@ -1,26 +1,37 @@
 -- A line as words between single spaces.
-use Rattle.std.specs.Prelude.{ℕ, List, [], ◌∷◌, length, codes, ◌&&◌, nat_eq, if◌then◌else◌, Option, Some, None}
+use Rattle.std.specs.Prelude.{ℕ, ◌-◌, List, [], ◌∷◌, length, take, drop, codes, Bool, true, ◌&&◌, nat_eq, nat_le, if◌then◌else◌, Option, Some, None}
 use Rattle.std.specs.List.{list_all, slice_split}
-use Rattle.std.specs.Option.{option_and_then}
 use Rattle.std.specs.Str.{bytes_eq}
-use Rattle.dap_script.specs.Fields.{bounded_of, octets_of}
 use Rattle.dap_bytes.specs.Name.{name_of}
-use Rattle.dap_script.specs.Words.{word, is_ascii, is_space}
-use Rattle.dap_script.specs.declared.kind.Kind.TheVariants.{Count}
+use Rattle.vdaf_api.specs.declared.kind.Kind.{Kind}
+use Rattle.dap_script.specs.Fields.{◌>>=◌, bounded_of, kind_of, node_of, octets_of, report_of}
+use Rattle.dap_script.specs.Words.{word, is_line_char, is_number_sign, is_space}
 use Rattle.dap_script.specs.declared.line.Line.{Line}
-use Rattle.dap_script.specs.declared.line.Line.TheVariants.{Task, Measure, Collect}
+use Rattle.dap_script.specs.declared.line.Line.TheVariants.{Blank, Task, Now, Measure, Upload, Collect, Restart}
 
-infixl 10 ◌>>=◌
-abbrev pub ◌>>=◌ : {A B : Type 0} → Option A → (A → Option B) → Option B
-o >>= f = option_and_then f o
+-- the task of a kind whose other words are these
+abbrev pub task_with : List ℕ → Kind → List ℕ → List ℕ → Option Line
+task_with name kind min precision = do
+  name ← name_of name
+  min ← bounded_of 1 1000000 min
+  precision ← bounded_of 1 1000000000 precision
+  Some (Task name kind min precision)
 
--- `task NAME count MIN PRECISION`, after the keyword
+-- the words of a task line's kind: all fields but the first and the last two
+abbrev pub kind_fields : List (List ℕ) → List (List ℕ)
+kind_fields fields = take (length fields - 3) (drop 1 fields)
+
+-- `task NAME KIND.. MIN PRECISION`, after the keyword
 abbrev pub task_of : List (List ℕ) → Option Line
-task_of fields = if nat_eq (length fields) 4 && bytes_eq (word fields 1) (codes "count") then (do
-  name ← name_of (word fields 0)
-  min ← bounded_of 1 1000000 (word fields 2)
-  precision ← bounded_of 1 1000000000 (word fields 3)
-  Some (Task name Count min precision)) else None
+task_of fields = if nat_le 3 (length fields) then (do
+  kind ← kind_of (kind_fields fields)
+  task_with (word fields 0) kind (word fields (length fields - 2)) (word fields (length fields - 1))) else None
+
+-- `now T`, after the keyword
+abbrev pub now_of : List (List ℕ) → Option Line
+now_of fields = if nat_eq (length fields) 1 then (do
+  t ← bounded_of 0 999999999999999999 (word fields 0)
+  Some (Now t)) else None
 
 -- `measure NAME ID TIME VALUE SEED`, after the keyword
 abbrev pub measure_of : List (List ℕ) → Option Line
@@ -32,6 +43,12 @@ measure_of fields = if nat_eq (length fields) 5 then (do
   seed ← octets_of (word fields 4)
   Some (Measure name id time value seed)) else None
 
+-- `upload BASE64`, after the keyword
+abbrev pub upload_of : List (List ℕ) → Option Line
+upload_of fields = if nat_eq (length fields) 1 then (do
+  report ← report_of (word fields 0)
+  Some (Upload report)) else None
+
 -- `collect NAME START`, after the keyword
 abbrev pub collect_of : List (List ℕ) → Option Line
 collect_of fields = if nat_eq (length fields) 2 then (do
@@ -39,18 +56,34 @@ collect_of fields = if nat_eq (length fields) 2 then (do
   start ← bounded_of 0 999999999999999999 (word fields 1)
   Some (Collect name start)) else None
 
+-- `restart NODE`, after the keyword
+abbrev pub restart_of : List (List ℕ) → Option Line
+restart_of fields = if nat_eq (length fields) 1 then (do
+  node ← node_of (word fields 0)
+  Some (Restart node)) else None
+
 abbrev pub fields_of : List ℕ → List (List ℕ) → Option Line
 fields_of keyword fields =
     if bytes_eq keyword (codes "task") then task_of fields
+    else (if bytes_eq keyword (codes "now") then now_of fields
     else (if bytes_eq keyword (codes "measure") then measure_of fields
+    else (if bytes_eq keyword (codes "upload") then upload_of fields
     else (if bytes_eq keyword (codes "collect") then collect_of fields
-    else None))
+    else (if bytes_eq keyword (codes "restart") then restart_of fields
+    else None)))))
 
 -- a keyword and what it wants
 abbrev pub line_of_words : List (List ℕ) → Option Line
 line_of_words [] = None
 line_of_words (keyword ∷ fields) = fields_of keyword fields
 
--- words between single spaces, all of ASCII
+-- empty, or a comment
+abbrev pub is_blank : List ℕ → Bool
+is_blank [] = true
+is_blank (c ∷ cs) = is_number_sign c
+
+-- nothing, a comment, or words between single spaces
 abbrev pub line_of : List ℕ → Option Line
-line_of text = if list_all is_ascii text then line_of_words (slice_split is_space text) else None
+line_of text =
+    if list_all is_line_char text then (if is_blank text then Some Blank else line_of_words (slice_split is_space text))
+    else None

@@ -1,68 +1,120 @@
 -- How the lines of a script are spelled.
-use Rattle.std.specs.Prelude.{◌≡◌, ◌⊎◌, ℕ, ◌≤◌, ◌<◌, ◌^◌, ◌-◌, List, [], ◌∷◌, ◌++◌, codes, length, map, take, All}
+use Rattle.std.specs.Prelude.{◌≡◌, ◌⊎◌, ℕ, ◌≤◌, ◌<◌, ◌^◌, ◌-◌, List, [], ◌∷◌, ◌++◌, codes, length, map, take, true, All}
 use Rattle.std.specs.Fmt.{decimal}
-use Rattle.std.specs.List.{flat_map, join_with_byte}
+use Rattle.std.specs.List.{IsDistinct, join_with_byte}
+use Rattle.std.specs.Str.{bytes_eq}
+use Rattle.base64.specs.Engines.{standard}
+use Rattle.base64.specs.GeneralPurpose.{encode_of}
 use Rattle.hex.specs.Hex.{encode_lower}
 use Rattle.dap_bytes.specs.Name.{IsName}
-use Rattle.dap_script.specs.Script.{IsInOrder, lines_of}
-use Rattle.dap_script.specs.declared.kind.Kind.{Kind}
-use Rattle.dap_script.specs.declared.kind.Kind.TheVariants.{Count}
+use Rattle.dap_bytes.specs.declared.node.Node.{Node}
+use Rattle.dap_bytes.specs.declared.node.Node.TheVariants.{Leader, Helper}
+use Rattle.vdaf_api.specs.Kind.{IsKind}
+use Rattle.vdaf_api.specs.declared.kind.Kind.{Kind}
+use Rattle.vdaf_api.specs.declared.kind.Kind.TheVariants.{Count, Sum, Histogram}
+use Rattle.dap_script.specs.Script.{lines_of, task_names}
+use Rattle.dap_script.specs.Words.{is_line_char}
 use Rattle.dap_script.specs.declared.line.Line.{Line}
-use Rattle.dap_script.specs.declared.line.Line.TheVariants.{Task, Measure, Collect}
+use Rattle.dap_script.specs.declared.line.Line.TheVariants.{Blank, Task, Now, Measure, Upload, Collect, Restart}
 
--- the words that spell a kind
+-- the words that spell a kind; a histogram's bounds have a comma between any two
 abbrev pub kind_words : Kind → List (List ℕ)
 kind_words Count = codes "count" ∷ []
+kind_words (Sum bits) = codes "sum" ∷ decimal bits ∷ []
+kind_words (Histogram bounds) = codes "histogram" ∷ join_with_byte 44 (map decimal bounds) ∷ []
 
--- the words that spell a line
+-- the word that names a node
+abbrev pub node_word : Node → List ℕ
+node_word Leader = codes "leader"
+node_word Helper = codes "helper"
+
+-- the words that spell a line; a blank one has none
 abbrev pub words_of : Line → List (List ℕ)
-words_of (Task name kind min precision) = codes "task" ∷ name ∷ [] ++ kind_words kind ++ decimal min ∷ decimal precision ∷ []
+words_of Blank = []
+words_of (Task name kind min precision) = codes "task" ∷ name ∷ kind_words kind ++ decimal min ∷ decimal precision ∷ []
+words_of (Now t) = codes "now" ∷ decimal t ∷ []
 words_of (Measure name id time value seed) =
     codes "measure" ∷ name ∷ encode_lower id ∷ decimal time ∷ decimal value ∷ encode_lower seed ∷ []
+words_of (Upload report) = codes "upload" ∷ encode_of standard report ∷ []
 words_of (Collect name start) = codes "collect" ∷ name ∷ decimal start ∷ []
+words_of (Restart node) = codes "restart" ∷ node_word node ∷ []
 
 -- the words with a space between any two
 abbrev pub spelling : Line → List ℕ
 spelling line = join_with_byte 32 (words_of line)
 
+-- each is below 256
+abbrev pub AreBytes : List ℕ → Type 0
+AreBytes bytes = All (λ byte. byte < 256) bytes
+
 -- 16 bytes
 abbrev pub IsOctets : List ℕ → Type 0
-IsOctets bytes = (length bytes ≡ 16) × All (λ byte. byte < 256) bytes
+IsOctets bytes = (length bytes ≡ 16) × AreBytes bytes
 
 -- each part of the line is in its range
 abbrev pub IsInRange : Line → Type 0
+IsInRange Blank = Unit {0}
 IsInRange (Task name kind min precision) =
-    IsName name × (1 ≤ min) × (min ≤ 1000000) × (1 ≤ precision) × (precision ≤ 1000000000)
+    IsName name × IsKind kind × (1 ≤ min) × (min ≤ 1000000) × (1 ≤ precision) × (precision ≤ 1000000000)
+IsInRange (Now t) = t ≤ 999999999999999999
 IsInRange (Measure name id time value seed) =
     IsName name × IsOctets id × (time ≤ 999999999999999999) × (value < 2 ^ 64) × IsOctets seed
+IsInRange (Upload report) = (0 < length report) × AreBytes report
 IsInRange (Collect name start) = IsName name × (start ≤ 999999999999999999)
+IsInRange (Restart node) = Unit {0}
 
--- a text that is a line
+-- a number sign, and ASCII characters but the line feed after it
+abbrev pub IsComment : List ℕ → Type 0
+IsComment text = (rest : List ℕ) × (text ≡ 35 ∷ rest) × All (λ c. is_line_char c ≡ true) rest
+
+-- a text that is a line: its words, or a comment, which is as a blank line
 abbrev pub SpellsLine : List ℕ → Line → Type 0
-SpellsLine text line = (text ≡ spelling line) × IsInRange line
+SpellsLine text line = ((text ≡ spelling line) × IsInRange line) ⊎ ((line ≡ Blank) × IsComment text)
 
--- the lines' spellings, each ended by a line feed
-abbrev pub ended_text : List Line → List ℕ
-ended_text lines = flat_map (λ line. spelling line ++ 10 ∷ []) lines
+-- texts that are these lines, one each
+abbrev pub SpellEach : List (List ℕ) → List Line → Type 0
+SpellEach [] [] = Unit {0}
+SpellEach [] (line ∷ lines) = ⊥
+SpellEach (text ∷ texts) [] = ⊥
+SpellEach (text ∷ texts) (line ∷ lines) = SpellsLine text line × SpellEach texts lines
 
--- lines that are a script: each is in its ranges, and may follow those before it
+-- the end of a line: a line feed, before which a carriage return may stand
+abbrev pub IsLineEnd : List ℕ → Type 0
+IsLineEnd end = (end ≡ 10 ∷ []) ⊎ (end ≡ 13 ∷ 10 ∷ [])
+
+-- bytes that begin with a line and its end, and the rest after it
+pub record Begins (line : Line) (Goes : List ℕ → Type 0) (bytes : List ℕ) : Type 0 where
+  pub text : List ℕ
+  pub end : List ℕ
+  pub rest : List ℕ
+  pub joined : bytes ≡ text ++ end ++ rest
+  pub spelled : SpellsLine text line
+  pub ended : IsLineEnd end
+  pub goes_on : Goes rest
+
+-- bytes that are one line without an end, which isn't empty
+abbrev pub IsUnended : Line → List Line → List ℕ → Type 0
+IsUnended line lines bytes = (lines ≡ []) × (0 < length bytes) × SpellsLine bytes line
+
+-- bytes that spell these lines: each with its end, which the last may lack
+abbrev pub SpellsLines : List ℕ → List Line → Type 0
+SpellsLines bytes [] = bytes ≡ []
+SpellsLines bytes (line ∷ lines) = Begins line (λ rest. SpellsLines rest lines) bytes ⊎ IsUnended line lines bytes
+
+-- lines that are a script: each is in its ranges, and no name stands in two task lines
 pub record IsScript (lines : List Line) : Type 0 where
   pub in_range : All IsInRange lines
-  pub in_order : IsInOrder lines
-
--- bytes that spell these lines, the last of which may lack its line feed
-abbrev pub SpellsLines : List ℕ → List Line → Type 0
-SpellsLines bytes lines = (bytes ≡ ended_text lines) ⊎ (bytes ++ 10 ∷ [] ≡ ended_text lines)
+  pub distinct : IsDistinct bytes_eq (task_names lines)
 
 -- bytes that spell the lines of a script
 pub record SpellsScript (bytes : List ℕ) (lines : List Line) : Type 0 where
   pub spelled : SpellsLines bytes lines
   pub is_script : IsScript lines
 
--- texts that spell the lines of some script
+-- texts that are the lines of some script
 pub record IsReadable (texts : List (List ℕ)) : Type 0 where
   pub lines : List Line
-  pub spelled : texts ≡ map spelling lines
+  pub spelled : SpellEach texts lines
   pub is_script : IsScript lines
 
 -- Line n, counted from 1, is the first for which the lines up to and with it are not those of a script.

@@ -3,13 +3,16 @@
 ghost use Rattle.std.specs.Prelude.{◌≡◌};
 
 use std::alloc::{AllocError, AllocFailed};
+use thiserror::Error;
 
 /// Why a script was refused.
-#[derive(Clone, Copy, Debug, PartialEq, Eq)]
+#[derive(Clone, Copy, Debug, PartialEq, Eq, Error)]
 pub enum ScriptFault {
-    /// The first line that is none, or that may not follow those before it, counted from 1.
+    /// The first line that is none, or that names the task of a line before it, counted from 1.
+    #[error("line {line} is refused")]
     Refused { line: u32 },
     /// There was no memory to read it.
+    #[error("out of memory")]
     NoMemory,
 }
 

@@ -6,12 +6,13 @@ ghost use Rattle.dap_script.specs.Script.{script_of};
 ghost use Rattle.dap_script.specs.Spelling.{SpellsLine, SpellsScript, IsFirstFault};
 ghost use Rattle.dap_script.specs.declared.line.Line.{Line as PlainLine};
 
-/// A law: a text is read as a line exactly where it spells this line, with each part in its range.
+/// A law: a text is read as a line exactly where it spells this line, with each part in its range, or is a comment.
 pub fn lines_are_spelled()
     ensures { (text : List ℕ) (line : PlainLine) → (line_of text ≡ Some line) ↔ SpellsLine text line }
 {}
 
-/// A law: bytes are read as a script's lines exactly where they spell these lines, in this order.
+/// A law: bytes are read as a script's lines exactly where they spell these lines, in this order, each with a line feed
+/// at its end, which the last may lack, and before which a carriage return may stand.
 pub fn scripts_are_spelled()
     ensures { (bytes : List ℕ) (lines : List PlainLine) → (script_of bytes ≡ Ok lines) ↔ SpellsScript bytes lines }
 {}

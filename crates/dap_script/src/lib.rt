@@ -1,8 +1,8 @@
 //! The script: what the run is told to do, as a list of lines.
 //!
-//! A script is ASCII text. So far it has the narrow form of one `count` task: a `task` line, `measure` lines of it with
-//! new identifiers and values 0 or 1, and at most one `collect` line, the last. The layers above use `read_script`,
-//! whose answer is the function `script_of` of the script's bytes, and the laws that tie this function to the spelling.
+//! A script is ASCII text of `task`, `now`, `measure`, `upload`, `collect` and `restart` lines, of empty lines and of
+//! comments. The layers above use `read_script`, whose answer is the function `script_of` of the script's bytes, and
+//! the laws that tie this function to the spelling.
 #![tactic(auto)]
 
 mod fault;
@@ -14,7 +14,6 @@ mod reading;
 mod script;
 
 pub use fault::ScriptFault;
-pub use kind::Kind;
 pub use laws::{lines_are_spelled, refusals_name_the_first_line, scripts_are_spelled};
 pub use line::Line;
 pub use reading::read_script;

@@ -2,16 +2,20 @@
 
 ghost use Rattle.std.specs.Prelude.{◌≡◌, IfOk};
 ghost use Rattle.std.specs.List.{slice_split, list_all};
-ghost use Rattle.dap_script.specs.Words.{texts, is_ascii, is_space};
+ghost use Rattle.dap_script.specs.Line.{is_blank};
+ghost use Rattle.dap_script.specs.Words.{texts, is_line_char, is_space};
 
-use crate::fields::{bounded, octets, small};
-use crate::kind::Kind;
-use dap_bytes::{Id, Name};
+use crate::fields::{bounded, node, octets, report, small};
+use crate::kind::kind;
+use dap_bytes::{Bytes, Id, Name, Node};
 use std::alloc::{AllocError, Global};
+use vdaf_api::Kind;
 
 /// One line of a script.
-#[derive(Debug, Drop)]
+#[derive(Debug, PartialEq, Eq, Drop)]
 pub enum Line {
+    /// An empty line or a comment, which begins with `#`.
+    Blank,
     /// A task: its name, what it measures, how many reports a batch must have to be collected (1 to 1,000,000), and
     /// the length of its batches in units of time (1 to 1,000,000,000).
     Task {
@@ -20,8 +24,12 @@ pub enum Line {
         min: u32,
         precision: u32,
     },
-    /// A client's measurement: the task, the report's identifier, its time (at most 999,999,999,999,999,999), the
-    /// value that is measured, and the seed from which the client draws.
+    /// The moment rises to a time (at most 999,999,999,999,999,999, as each time).
+    Now {
+        t: u64,
+    },
+    /// A client's measurement: the task, the report's identifier, its time, the value that is measured, and the seed
+    /// from which the client draws.
     Measure {
         name: Name,
         id: Id,
@@ -29,34 +37,66 @@ pub enum Line {
         value: u64,
         seed: [u8; 16],
     },
+    /// A client's report, as its bytes, which are at least one.
+    Upload {
+        report: Bytes,
+    },
     /// The collection of the task's batch that begins at a time.
     Collect {
         name: Name,
         start: u64,
+    },
+    /// The node restarts.
+    Restart {
+        node: Node,
     },
 }
 
 /// The greatest time.
 const MAX_TIME: u64 = 999_999_999_999_999_999;
 
-impl Line {
-    ghost use Rattle.dap_script.specs.Line.{line_of, line_of_words, task_of, measure_of, collect_of};
+/// The greatest least number of reports in a collected batch.
+const MAX_MIN: u32 = 1_000_000;
 
-    /// `NAME count MIN PRECISION`
-    fn task(fields: &[&str]) -> Option<Line>
-        ensures { result ≡ task_of (texts fields.now) }
+/// The greatest length of a batch.
+const MAX_PRECISION: u32 = 1_000_000_000;
+
+impl Line {
+    ghost use Rattle.dap_script.specs.Line.{line_of, line_of_words, task_with, task_of, now_of, measure_of, upload_of, collect_of, restart_of};
+
+    fn task_with(name: &str, kind: Kind, min: &str, precision: &str) -> Option<Line>
+        ensures { result ≡ task_with name.now kind min.now precision.now }
     {
-        let [name, kind, min, precision] = *fields else {
-            return None;
-        };
-        if kind != "count" {
-            return None;
-        }
         Some(Line::Task {
             name: Name::new(name.as_bytes())?,
-            kind: Kind::Count,
-            min: small(min, 1_000_000)?,
-            precision: small(precision, 1_000_000_000)?,
+            kind,
+            min: small(min, MAX_MIN)?,
+            precision: small(precision, MAX_PRECISION)?,
+        })
+    }
+
+    /// `NAME KIND.. MIN PRECISION`
+    fn task(alloc: Global, fields: &[&str]) -> Result<Option<Line>, AllocError>
+        ensures { IfOk result (λ line. line ≡ task_of (texts fields.now)) }
+    {
+        let [name, words @ .., min, precision] = fields else {
+            return Ok(None);
+        };
+        match kind(alloc, words)? {
+            None => Ok(None),
+            Some(kind) => Ok(Line::task_with(name, kind, min, precision)),
+        }
+    }
+
+    /// `T`
+    fn now(fields: &[&str]) -> Option<Line>
+        ensures { result ≡ now_of (texts fields.now) }
+    {
+        let [t] = *fields else {
+            return None;
+        };
+        Some(Line::Now {
+            t: bounded(t, 0, MAX_TIME)?,
         })
     }
 
@@ -76,6 +116,19 @@ impl Line {
         })
     }
 
+    /// `BASE64`
+    fn upload(alloc: Global, fields: &[&str]) -> Result<Option<Line>, AllocError>
+        ensures { IfOk result (λ line. line ≡ upload_of (texts fields.now)) }
+    {
+        let [text] = *fields else {
+            return Ok(None);
+        };
+        match report(alloc, text)? {
+            None => Ok(None),
+            Some(report) => Ok(Some(Line::Upload { report })),
+        }
+    }
+
     /// `NAME START`
     fn collect(fields: &[&str]) -> Option<Line>
         ensures { result ≡ collect_of (texts fields.now) }
@@ -89,41 +142,67 @@ impl Line {
         })
     }
 
-    fn from_words(words: &[&str]) -> Option<Line>
-        ensures { result ≡ line_of_words (texts words.now) }
+    /// `NODE`
+    fn restart(fields: &[&str]) -> Option<Line>
+        ensures { result ≡ restart_of (texts fields.now) }
     {
-        let [keyword, fields @ ..] = words else {
+        let [word] = *fields else {
             return None;
         };
+        Some(Line::Restart {
+            node: node(word)?,
+        })
+    }
+
+    fn from_words(alloc: Global, words: &[&str]) -> Result<Option<Line>, AllocError>
+        ensures { IfOk result (λ line. line ≡ line_of_words (texts words.now)) }
+    {
+        let [keyword, fields @ ..] = words else {
+            return Ok(None);
+        };
         match *keyword {
-            "task" => Line::task(fields),
-            "measure" => Line::measure(fields),
-            "collect" => Line::collect(fields),
-            _ => None,
+            "task" => Line::task(alloc, fields),
+            "now" => Ok(Line::now(fields)),
+            "measure" => Ok(Line::measure(fields)),
+            "upload" => Line::upload(alloc, fields),
+            "collect" => Ok(Line::collect(fields)),
+            "restart" => Ok(Line::restart(fields)),
+            _ => Ok(None),
         }
     }
 
-    /// The line that is written so, if there is one.
+    /// The line that is written so, without its end, if there is one.
     pub fn parse(alloc: Global, text: &[u8]) -> Result<Option<Line>, AllocError>
         ensures { IfOk result (λ line. line ≡ line_of text.now) }
     {
-        if !are_ascii(text) {
+        if !are_line_chars(text) {
             return Ok(None);
+        }
+        if is_blank(text) {
+            return Ok(Some(Line::Blank));
         }
         match str::from_utf8(text) {
             Ok(text) => {
                 let words = words(alloc, text)?;
-                Ok(Line::from_words(&words))
+                Line::from_words(alloc, &words)
             }
             Err(_) => Ok(None),
         }
     }
 }
 
-fn are_ascii(bytes: &[u8]) -> bool
-    ensures { result ≡ list_all is_ascii bytes.now }
+/// ASCII characters but the line feed.
+fn are_line_chars(text: &[u8]) -> bool
+    ensures { result ≡ list_all is_line_char text.now }
 {
-    bytes.iter().all(|byte| *byte < 128)
+    text.iter().all(|byte| *byte < 128 && *byte != b'\n')
+}
+
+/// Empty or a comment.
+fn is_blank(text: &[u8]) -> bool
+    ensures { result ≡ is_blank text.now }
+{
+    matches!(text, [] | [b'#', ..])
 }
 
 fn words(alloc: Global, text: &str) -> Result<Vec<&str>, AllocError>

@@ -1,8 +1,9 @@
 //! Reading a whole script.
 
-ghost use Rattle.std.specs.Prelude.{◌≤◌, ◌+◌, length, IfOk};
+ghost use Rattle.std.specs.Prelude.{◌≤◌, length, IfOk};
 ghost use Rattle.dap_script.specs.Reads.{Reads};
 ghost use Rattle.dap_script.specs.Script.{script_of};
+ghost use Rattle.dap_script.specs.Spelling.{IsScript};
 
 use crate::fault::ScriptFault;
 use crate::line::Line;
@@ -11,12 +12,13 @@ use std::alloc::Global;
 
 /// The lines of a script, whose bytes are at most 67,108,864.
 ///
-/// Refused comes exactly where the bytes are no script: it names the first line, counted from 1, for which the script
-/// up to and with this line is none.
+/// Refused comes exactly where the bytes are no script: it names the first line, counted from 1, that isn't in the
+/// grammar, or that names the task of a line before it.
 pub fn read_script(alloc: Global, bytes: &[u8]) -> Result<Vec<Line>, ScriptFault>
     requires { length bytes.now ≤ 67108864 }
     ensures lines { Reads result (script_of bytes.now) }
-    ensures count { IfOk result (λ lines. length lines.items ≤ length bytes.now + 1) }
+    ensures script { IfOk result (λ lines. IsScript lines.items) }
+    ensures count { IfOk result (λ lines. length lines.items ≤ length bytes.now) }
 {
     let mut script = Vec::new(alloc);
     for text in &lines(alloc, bytes)? {

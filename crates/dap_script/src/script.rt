@@ -1,82 +1,66 @@
 //! Scripts as lists of lines.
 
-ghost use Rattle.std.specs.Prelude.{◌≡◌, IfOk};
+ghost use Rattle.std.specs.Prelude.{◌≡◌, map, IfOk};
+ghost use Rattle.std.specs.Char.{is_newline};
 ghost use Rattle.std.specs.List.{slice_split, list_any};
+ghost use Rattle.std.specs.Str.Lines.{strip_carriage_return};
 ghost use Rattle.dap_script.specs.Words.{texts};
-ghost use Rattle.dap_script.specs.Script.{lines_of, ends_empty, is_line_feed, is_collect, is_task, has_id, follows, follows_task, line_after};
+ghost use Rattle.dap_script.specs.Script.{lines_of, names_task, follows, line_after};
 
 use crate::line::Line;
 use dap_bytes::Name;
 use std::alloc::{AllocError, Global};
 
+/// The parts between the line feeds.
 fn pieces(alloc: Global, bytes: &[u8]) -> Result<Vec<&[u8]>, AllocError>
-    ensures { IfOk result (λ pieces. texts pieces.items ≡ slice_split is_line_feed bytes.now) }
+    ensures { IfOk result (λ pieces. texts pieces.items ≡ slice_split is_newline bytes.now) }
 {
     bytes.split(|byte| *byte == b'\n').collect(alloc)
 }
 
-fn ends_empty(pieces: &[&[u8]]) -> bool
-    ensures { result ≡ ends_empty (texts pieces.now) }
+/// The line without a carriage return at its end.
+fn without_return(line: &[u8]) -> &[u8]
+    ensures { result.now ≡ strip_carriage_return line.now }
 {
-    match pieces {
-        [.., last] => last.is_empty(),
-        [] => false,
+    match line {
+        [front @ .., b'\r'] => front,
+        _ => line,
     }
+}
+
+/// The lines that line feeds end.
+fn ended_lines<'a>(alloc: Global, pieces: &[&'a [u8]]) -> Result<Vec<&'a [u8]>, AllocError>
+    ensures { IfOk result (λ lines. texts lines.items ≡ map strip_carriage_return (texts pieces.now)) }
+{
+    let mut lines = Vec::new(alloc);
+    for piece in pieces {
+        lines.push(without_return(piece))?;
+    }
+    Ok(lines)
 }
 
 /// The lines. A line feed at the end ends the last line and begins no other.
 pub fn lines(alloc: Global, bytes: &[u8]) -> Result<Vec<&[u8]>, AllocError>
     ensures { IfOk result (λ lines. texts lines.items ≡ lines_of bytes.now) }
 {
-    let mut lines = pieces(alloc, bytes)?;
-    if ends_empty(&lines) {
-        lines.pop();
+    let pieces = pieces(alloc, bytes)?;
+    let Some((last, ended)) = pieces.split_last() else {
+        return Ok(Vec::new(alloc));
+    };
+    let mut lines = ended_lines(alloc, ended)?;
+    if !last.is_empty() {
+        lines.push(*last)?;
     }
     Ok(lines)
 }
 
-fn any_collect(lines: &[Line]) -> bool
-    ensures { result ≡ list_any is_collect lines.now }
-{
-    lines.iter().any(|line| line.is_collect())
-}
-
-fn any_has_id(lines: &[Line], wanted: &[u8; 16]) -> bool
-    ensures { result ≡ list_any (has_id wanted.now) lines.now }
-{
-    lines.iter().any(|line| line.has_id(wanted))
-}
-
 impl Line {
-    fn is_collect(&self) -> bool
-        ensures { result ≡ is_collect self.now }
-    {
-        matches!(self, Line::Collect { .. })
-    }
-
-    fn has_id(&self, wanted: &[u8; 16]) -> bool
-        ensures { result ≡ has_id wanted.now self.now }
+    fn names_task(&self, wanted: &Name) -> bool
+        ensures { result ≡ names_task wanted.now self.now }
     {
         match self {
-            Line::Measure { id, .. } => id == wanted,
+            Line::Task { name, .. } => name == wanted,
             _ => false,
-        }
-    }
-
-    fn follows_task(&self, task: &Name, precision: u32, rest: &[Line]) -> bool
-        ensures { result ≡ follows_task task.now precision rest.now self.now }
-    {
-        match self {
-            Line::Task { .. } => false,
-            Line::Measure {
-                name,
-                id,
-                value,
-                ..
-            } => { name == task && *value < 2 && !any_has_id(rest, id) && !any_collect(rest) }
-            Line::Collect { name, start } => {
-                name == task && start.is_multiple_of(u64::from(precision)) && !any_collect(rest)
-            }
         }
     }
 
@@ -84,18 +68,17 @@ impl Line {
     fn follows(&self, before: &[Line]) -> bool
         ensures { result ≡ follows before.now self.now }
     {
-        match before {
-            [] => matches!(self, Line::Task { .. }),
-            [first, rest @ ..] => match first {
-                Line::Task {
-                    name,
-                    precision,
-                    ..
-                } => self.follows_task(name, *precision, rest),
-                _ => false,
-            },
+        match self {
+            Line::Task { name, .. } => !any_names_task(before, name),
+            _ => true,
         }
     }
+}
+
+fn any_names_task(lines: &[Line], name: &Name) -> bool
+    ensures { result ≡ list_any (names_task name.now) lines.now }
+{
+    lines.iter().any(|line| line.names_task(name))
 }
 
 /// The line that a text is, if it may follow those before it.

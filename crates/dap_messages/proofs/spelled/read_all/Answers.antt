@@ -1,0 +1,11 @@
+use Rattle.std.proofs.Common.{arith}
+use Rattle.dap_messages.specs.Laws.{is_found, is_only}
+use Rattle.dap_messages.proofs.spelled.read_all.Goals as goal
+
+pub returns-clause-found : goal.returns-clause-found
+returns-clause-found g c =
+    is_found g.T.Spelled.grammar g.met.T.Spelled.laws c.args.bytes.now c.read_exact.result (λ i. omega (arith, c.type_inv.bytes i)) c.read_exact.ensures
+
+pub returns-clause-only : goal.returns-clause-only
+returns-clause-only g c =
+    is_only g.T.Spelled.grammar g.met.T.Spelled.laws c.args.bytes.now c.read_exact.result c.read_exact.ensures

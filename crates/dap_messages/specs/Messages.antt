@@ -1,0 +1,116 @@
+-- Reports and messages, as tables of their fields.
+use Rattle.std.specs.Prelude.{ℕ, List, Option, Some, None, ◌==◌, if◌then◌else◌}
+use Rattle.std.specs.Int.{w16}
+use Rattle.dap_messages.specs.declared.job.JobNo.{JobNo}
+use Rattle.dap_messages.specs.declared.body.Half.{Half}
+use Rattle.dap_messages.specs.declared.body.Step.{Step}
+use Rattle.dap_messages.specs.declared.body.Status.{Status}
+use Rattle.dap_messages.specs.declared.item.Tagged.{Tagged}
+use Rattle.dap_messages.specs.declared.reply.Reply.{Reply}
+use Rattle.dap_messages.specs.declared.report.Report.{Report}
+use Rattle.dap_messages.specs.declared.message.Message.{Message}
+use Rattle.dap_messages.specs.declared.message.Message.TheVariants.{InitReq, InitResp, ContReq, ContResp, ShareReq, ShareResp}
+use Rattle.dap_messages.specs.Grammar.{Grammar, number, ◌⊗◌, fixed, shaped, variant, bytes, name, by_first, items}
+use Rattle.dap_messages.specs.Forms.{any_u32, time, identifier, checksum, job, half, step, status, reply}
+
+-- name, identifier, time, the length 0 of the extensions, public share, the leader's and the helper's sealed shares
+abbrev pub report_fields : Grammar (List ℕ × (List ℕ × (ℕ × (List ℕ × (List ℕ × List ℕ)))))
+report_fields = name ⊗ identifier ⊗ time ⊗ fixed (number w16 0 0) 0 (bytes 32000 ⊗ bytes 131072 ⊗ bytes 32000)
+
+abbrev pub report : Grammar Report
+report =
+    shaped (λ p. record { name = p.0; id = p.1.0; time = p.1.1.0; public = p.1.1.1.0; leader = p.1.1.1.1.0; helper = p.1.1.1.1.1 })
+    (λ r. (r.name, (r.id, (r.time, (r.public, (r.leader, r.helper)))))) report_fields
+
+-- job, name, and what the helper gets of each report
+abbrev pub init_req_of : Message → Option (JobNo × (List ℕ × List (Tagged Half)))
+init_req_of (InitReq j n hs) = Some (j, (n, hs))
+init_req_of (InitResp j xs) = None
+init_req_of (ContReq j xs) = None
+init_req_of (ContResp j xs) = None
+init_req_of (ShareReq n s c check) = None
+init_req_of (ShareResp n s r) = None
+
+abbrev pub init_req : Grammar Message
+init_req = variant (λ p. InitReq p.0 p.1.0 p.1.1) init_req_of (job ⊗ name ⊗ items half)
+
+-- job, and a step for each report
+abbrev pub init_resp_of : Message → Option (JobNo × List (Tagged Step))
+init_resp_of (InitReq j n hs) = None
+init_resp_of (InitResp j xs) = Some (j, xs)
+init_resp_of (ContReq j xs) = None
+init_resp_of (ContResp j xs) = None
+init_resp_of (ShareReq n s c check) = None
+init_resp_of (ShareResp n s r) = None
+
+abbrev pub init_resp : Grammar Message
+init_resp = variant (λ p. InitResp p.0 p.1) init_resp_of (job ⊗ items step)
+
+abbrev pub cont_req_of : Message → Option (JobNo × List (Tagged Step))
+cont_req_of (InitReq j n hs) = None
+cont_req_of (InitResp j xs) = None
+cont_req_of (ContReq j xs) = Some (j, xs)
+cont_req_of (ContResp j xs) = None
+cont_req_of (ShareReq n s c check) = None
+cont_req_of (ShareResp n s r) = None
+
+abbrev pub cont_req : Grammar Message
+cont_req = variant (λ p. ContReq p.0 p.1) cont_req_of (job ⊗ items step)
+
+-- job, and the outcome of each report
+abbrev pub cont_resp_of : Message → Option (JobNo × List (Tagged Status))
+cont_resp_of (InitReq j n hs) = None
+cont_resp_of (InitResp j xs) = None
+cont_resp_of (ContReq j xs) = None
+cont_resp_of (ContResp j xs) = Some (j, xs)
+cont_resp_of (ShareReq n s c check) = None
+cont_resp_of (ShareResp n s r) = None
+
+abbrev pub cont_resp : Grammar Message
+cont_resp = variant (λ p. ContResp p.0 p.1) cont_resp_of (job ⊗ items status)
+
+-- name, start, count and checksum
+abbrev pub share_req_of : Message → Option (List ℕ × (ℕ × (ℕ × List ℕ)))
+share_req_of (InitReq j n hs) = None
+share_req_of (InitResp j xs) = None
+share_req_of (ContReq j xs) = None
+share_req_of (ContResp j xs) = None
+share_req_of (ShareReq n s c check) = Some (n, (s, (c, check)))
+share_req_of (ShareResp n s r) = None
+
+abbrev pub share_req : Grammar Message
+share_req = variant (λ p. ShareReq p.0 p.1.0 p.1.1.0 p.1.1.1) share_req_of (name ⊗ time ⊗ any_u32 ⊗ checksum)
+
+-- name, start and the answer
+abbrev pub share_resp_of : Message → Option (List ℕ × (ℕ × Reply))
+share_resp_of (InitReq j n hs) = None
+share_resp_of (InitResp j xs) = None
+share_resp_of (ContReq j xs) = None
+share_resp_of (ContResp j xs) = None
+share_resp_of (ShareReq n s c check) = None
+share_resp_of (ShareResp n s r) = Some (n, (s, r))
+
+abbrev pub share_resp : Grammar Message
+share_resp = variant (λ p. ShareResp p.0 p.1.0 p.1.1) share_resp_of (name ⊗ time ⊗ reply)
+
+abbrev pub first_of_message : Message → ℕ
+first_of_message (InitReq j n hs) = 1
+first_of_message (InitResp j xs) = 2
+first_of_message (ContReq j xs) = 3
+first_of_message (ContResp j xs) = 4
+first_of_message (ShareReq n s c check) = 5
+first_of_message (ShareResp n s r) = 6
+
+-- the forms by their first bytes
+abbrev pub message_by : ℕ → Option (Grammar Message)
+message_by b =
+    if b == 1 then Some init_req else
+    (if b == 2 then Some init_resp else
+    (if b == 3 then Some cont_req else
+    (if b == 4 then Some cont_resp else
+    (if b == 5 then Some share_req else
+    (if b == 6 then Some share_resp else None)))))
+
+-- a message has at most 4,194,304 bytes
+abbrev pub message : Grammar Message
+message = by_first first_of_message message_by 4194303

@@ -1,0 +1,63 @@
+//! Reports.
+
+use crate::body::{MOST_HELPER, MOST_PUBLIC};
+use crate::fault::ReadFault;
+use crate::fields::{
+    LATEST_TIME, put_bytes, put_name, read_array, read_bytes, read_name, read_u16, read_u64,
+};
+use crate::spelled::Spelled;
+use dap_bytes::{Bytes, Cursor, Id, Name, put_u16, put_u64};
+use std::alloc::{AllocError, Global};
+
+/// The most bytes of the leader's sealed input share.
+pub const MOST_LEADER: u32 = 131_072;
+
+/// A client's report of one measurement: the task's name, the report's identifier and time, the public share, and the
+/// two sealed input shares.
+#[derive(Debug, Drop)]
+pub struct Report {
+    pub name: Name,
+    pub id: Id,
+    pub time: u64,
+    pub public: Bytes,
+    pub leader: Bytes,
+    pub helper: Bytes,
+}
+
+impl Spelled for Report {
+    ghost use Rattle.dap_messages.specs.Messages.{report};
+    ghost use Rattle.dap_messages.specs.MessageLaws.{report_lawful};
+
+    ghost grammar = { report };
+
+    ghost laws = { report_lawful };
+
+    fn read(alloc: Global, cursor: &mut Cursor<'_>) -> Result<Self, ReadFault> {
+        let name = read_name(cursor)?;
+        let id = read_array(cursor)?;
+        let time = read_u64(cursor, 0, LATEST_TIME)?;
+        // No extension is known.
+        read_u16(cursor, 0, 0)?;
+        let public = read_bytes(alloc, cursor, MOST_PUBLIC)?;
+        let leader = read_bytes(alloc, cursor, MOST_LEADER)?;
+        let helper = read_bytes(alloc, cursor, MOST_HELPER)?;
+        Ok(Report {
+            name,
+            id,
+            time,
+            public,
+            leader,
+            helper,
+        })
+    }
+
+    fn put(&self, out: &mut Vec<u8>) -> Result<(), AllocError> {
+        put_name(out, &self.name)?;
+        out.extend_from_slice(&self.id)?;
+        put_u64(out, self.time)?;
+        put_u16(out, 0)?;
+        put_bytes(out, &self.public)?;
+        put_bytes(out, &self.leader)?;
+        put_bytes(out, &self.helper)
+    }
+}

@@ -1,5 +1,0 @@
-use Rattle.dap_model.proofs.OnceLaws.{distinct_kept}
-use Rattle.dap_model.proofs.laws.reports_are_accepted_once.Goals as goal
-
-pub returns : goal.returns
-returns c state number line = distinct_kept state number line

@@ -1,0 +1,30 @@
+-- What a report comes to that is offered and reads.
+use Rattle.std.specs.Prelude.{ℕ, ◌+◌, List, Bool, false, nat_lt, if◌then◌else◌, is_some, Option}
+use Rattle.std.specs.Option.{option_map_or}
+use Rattle.std.specs.Str.{bytes_eq}
+use Rattle.dap_tasks.specs.declared.cause.Cause.{Cause}
+use Rattle.dap_tasks.specs.declared.cause.Cause.TheVariants.{Early, Conflict, Collected}
+
+-- The report was accepted before, it is barred by a cause, or it is added.
+pub data Judged : Type 0 where
+  again : Judged
+  barred : Cause → Judged
+  added : Judged
+
+-- a moment is known, and the time is more than 300 above it
+abbrev pub is_early : Option ℕ → ℕ → Bool
+is_early moment time = option_map_or (λ m. nat_lt (m + 300) time) moment false
+
+-- the accepted report has these bytes
+abbrev pub is_known_as : Option (List ℕ) → List ℕ → Bool
+is_known_as known bytes = option_map_or (λ accepted. bytes_eq accepted bytes) known false
+
+-- The judgement of a report with these bytes and this time, where `known` are the bytes of the accepted report of its task
+-- with its identifier, if there is one, and `collected` says whether its batch was collected. The first that applies counts.
+abbrev pub judged : Option (List ℕ) → Option ℕ → Bool → List ℕ → ℕ → Judged
+judged known moment collected bytes time =
+    if is_known_as known bytes then again
+    else (if is_early moment time then barred Early
+    else (if is_some known then barred Conflict
+    else (if collected then barred Collected
+    else added)))

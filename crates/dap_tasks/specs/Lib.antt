@@ -1,0 +1,4 @@
+pub mod Judged
+pub mod Task
+pub mod Tasks
+pub mod Trial

@@ -1,0 +1,22 @@
+//! Why a line is refused.
+
+/// Why a line of a script, or an upload, is refused.
+#[derive(Clone, Copy, Debug, PartialEq, Eq)]
+pub enum Cause {
+    /// No task of this name is known.
+    Task,
+    /// The bytes of an upload are no report.
+    Form,
+    /// The measurement isn't of the task's kind, or it has no shares.
+    Value,
+    /// The report's time is more than 300 units above the moment.
+    Early,
+    /// The task has expired.
+    Expired,
+    /// Another report of the task has the identifier.
+    Conflict,
+    /// The report's batch was collected.
+    Collected,
+    /// The start is no multiple of the task's precision.
+    Start,
+}

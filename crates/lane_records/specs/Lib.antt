@@ -1,0 +1,4 @@
+pub mod Bounds
+pub mod BoundsLaws
+pub mod Stored
+pub mod StoredLaws
