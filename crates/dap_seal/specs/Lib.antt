@@ -1,0 +1,4 @@
+pub mod Answered
+pub mod Sealed
+pub mod Undone
+pub mod Reports
