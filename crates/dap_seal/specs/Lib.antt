@@ -1,0 +1,5 @@
+pub mod Answered
+pub mod Sealed
+pub mod Undone
+pub mod Reports
+pub mod Rules

@@ -1,0 +1,61 @@
+//! The seal with provisioned keys.
+
+ghost use Rattle.std.specs.Prelude.{◌≡◌};
+ghost use Rattle.dap_seal.specs.Sealed.{opened_by, sealed_by};
+ghost use Rattle.dap_seal.specs.Undone.{opened_by-sealed_by};
+
+use crate::cover::covered;
+use crate::head::Head;
+use crate::seal::{OpenFault, Seal};
+use crate::tag::{TAG_LEN, tag_of};
+use dap_tasks::SealKeys;
+use std::alloc::{AllocError, Global};
+use vdaf_api::Role;
+
+/// The seal with the keys of one of the two aggregators: the plain bytes are covered by the stream of the first key,
+/// and a tag by CMAC with the second key (NIST SP 800-38B) stands behind them.
+#[derive(Clone, Copy, Debug)]
+pub struct CmacSeal {
+    pub keys: SealKeys,
+    pub role: Role,
+}
+
+impl CmacSeal {
+    /// The seal for an aggregator with its keys. It takes no memory.
+    pub fn new(keys: &SealKeys, role: Role) -> CmacSeal
+        ensures { result ≡ record { keys = keys.now; role = role } }
+    {
+        CmacSeal { keys: *keys, role }
+    }
+}
+
+impl Seal for CmacSeal {
+    ghost sealed = { λ s head plain. sealed_by s.keys s.role head plain };
+
+    ghost opened = { λ s head bytes. opened_by s.keys s.role head bytes };
+
+    ghost undone = { λ s head plain. opened_by-sealed_by s.keys s.role head plain };
+
+    fn seal(&self, alloc: Global, head: &Head, plain: &[u8]) -> Result<Vec<u8>, AllocError> {
+        let mut sealed = covered(alloc, &self.keys, self.role, &head.id, plain)?;
+        let tag = tag_of(alloc, &self.keys, self.role, head, &sealed)?;
+        sealed.extend_from_slice(&tag)?;
+        Ok(sealed)
+    }
+
+    fn open(&self, alloc: Global, head: &Head, bytes: &[u8]) -> Result<Vec<u8>, OpenFault> {
+        if bytes.len() < TAG_LEN {
+            return Err(OpenFault::Tag);
+        }
+        let (ciphertext, given) = bytes.split_at(bytes.len() - TAG_LEN);
+        match tag_of(alloc, &self.keys, self.role, head, ciphertext) {
+            Ok(tag) if tag.as_slice() == given => {}
+            Ok(_) => return Err(OpenFault::Tag),
+            Err(_) => return Err(OpenFault::NoMemory),
+        }
+        match covered(alloc, &self.keys, self.role, &head.id, ciphertext) {
+            Ok(plain) => Ok(plain),
+            Err(_) => Err(OpenFault::NoMemory),
+        }
+    }
+}

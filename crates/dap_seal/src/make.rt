@@ -1,0 +1,94 @@
+//! Honest reports.
+
+ghost use Rattle.std.specs.Prelude.{◌≡◌, ◌≤◌, IfOk};
+ghost use Rattle.std.specs.Option.{option_map};
+ghost use Rattle.dap_bytes.specs.Name.{IsName};
+ghost use Rattle.dap_messages.specs.Messages.{report};
+ghost use Rattle.vdaf_api.specs.Answered.{parts_of};
+ghost use Rattle.dap_seal.specs.Answered.{Makes};
+ghost use Rattle.dap_seal.specs.Reports.{honest_report, report_of};
+
+use crate::cmac_seal::CmacSeal;
+use crate::head::Head;
+use crate::seal::Seal;
+use dap_bytes::{Bytes, Id, Name};
+use dap_messages::{Report, write_report};
+use dap_tasks::Task;
+use std::alloc::{AllocError, Global};
+use vdaf_api::{Role, ShardFault, Shares, Vdaf};
+
+/// The bytes of the report that an honest client of a task makes of a measurement, with a time of at most
+/// 999,999,999,999,999,999. `BadValue` exactly where the measurement isn't one of the kind, and `Spent` exactly where it
+/// is and a drawing from the seed is spent.
+pub fn make_report<V: Vdaf>(
+    alloc: Global,
+    task: &Task,
+    vdaf: &V,
+    id: &Id,
+    time: u64,
+    m: u64,
+    seed: &[u8; 16],
+) -> Result<Vec<u8>, ShardFault>
+    requires { time ≤ 999999999999999999 }
+    ensures { Makes result ((V.functions vdaf.now).encoding m)
+        (option_map report.spell (honest_report (V.functions vdaf.now) task.now id.now time m seed.now)) }
+{
+    let shares = match vdaf.shard(alloc, id, m, seed) {
+        Ok(shares) => shares,
+        Err(fault) => return Err(fault),
+    };
+    let made = match sealed_report(alloc, task, id, time, shares) {
+        Ok(made) => made,
+        Err(_) => return Err(ShardFault::NoMemory),
+    };
+    match write_report(alloc, &made) {
+        Ok(bytes) => Ok(bytes),
+        Err(_) => Err(ShardFault::NoMemory),
+    }
+}
+
+/// The report of shares, each half sealed for its aggregator.
+fn sealed_report(
+    alloc: Global,
+    task: &Task,
+    id: &Id,
+    time: u64,
+    shares: Shares,
+) -> Result<Report, AllocError>
+    ensures report { IfOk result (λ r. r ≡ report_of task.now id.now time (parts_of shares)) }
+    ensures name { IfOk result (λ r. IsName r.name) }
+{
+    let name = name_of(task);
+    let Shares {
+        public,
+        leader,
+        helper,
+    } = shares;
+    let head = Head {
+        name,
+        id: *id,
+        time,
+        public,
+    };
+    let leader = CmacSeal::new(&task.leader, Role::Leader).seal(alloc, &head, leader.as_slice())?;
+    let helper = CmacSeal::new(&task.helper, Role::Helper).seal(alloc, &head, helper.as_slice())?;
+    let Head { public, .. } = head;
+    Ok(Report {
+        name,
+        id: *id,
+        time,
+        public,
+        leader: Bytes::new(leader),
+        helper: Bytes::new(helper),
+    })
+}
+
+/// A task's name, of which a caller then knows that it is one.
+fn name_of(task: &Task) -> Name
+    ensures same { result ≡ task.now.name }
+    ensures name { IsName result }
+{
+    let name = task.name;
+    let _bytes = name.as_bytes();
+    name
+}
