@@ -1,3 +1,4 @@
+pub mod Changes
 pub mod Printed
 pub mod Run
 pub mod State

@@ -1,9 +1,11 @@
 //! What is printed, and the plain model of which lines are.
 #![tactic(auto)]
 
+mod laws;
 mod printed;
 mod printing;
 
+pub use laws::{lines_change_what_they_name, reports_are_accepted_once};
 pub use printed::Printed;
 pub use printing::print_line;
 

@@ -1,0 +1,34 @@
+-- What a line may change.
+use Rattle.std.specs.Prelude.{◌≡◌, ◌⊎◌, ℕ, List, [], ◌∷◌, ◌++◌, false}
+use Rattle.std.specs.List.{list_any}
+use Rattle.dap_script.specs.declared.line.Line.{Line}
+use Rattle.dap_script.specs.declared.line.Line.TheVariants as line
+use Rattle.dap_model.specs.State.{Accepted, State, has_key}
+use Rattle.dap_model.specs.Step.{raised}
+
+-- One report of this task, identifier and time is accepted after the others, and nothing else changes.
+pub record AddsReport (old new : State) (task id : List ℕ) (time : ℕ) : Type 0 where
+  pub report : Accepted
+  pub of_task : report.task ≡ task
+  pub of_id : report.id ≡ id
+  pub at_time : report.time ≡ time
+  pub grown : new ≡ record old { accepted = old.accepted ++ report ∷ [] }
+
+-- This batch is collected after the others, and nothing else changes.
+abbrev pub AddsBatch : State → State → List ℕ → ℕ → Type 0
+AddsBatch old new task start = new ≡ record old { collected = old.collected ++ record { task = task; start = start } ∷ [] }
+
+-- A line changes nothing, or what it names.
+abbrev pub ChangesNamed : State → State → Line → Type 0
+ChangesNamed old new line.Blank = new ≡ old
+ChangesNamed old new (line.Task name kind min precision) = new ≡ old
+ChangesNamed old new (line.Now t) = new ≡ record old { moment = raised old.moment t }
+ChangesNamed old new (line.Measure name id time value seed) = (new ≡ old) ⊎ AddsReport old new name id time
+ChangesNamed old new (line.Upload report) = new ≡ old
+ChangesNamed old new (line.Collect name start) = (new ≡ old) ⊎ AddsBatch old new name start
+ChangesNamed old new (line.Restart node) = new ≡ old
+
+-- No two of the reports have the same task and identifier.
+abbrev pub AreDistinct : List Accepted → Type 0
+AreDistinct [] = Unit {0}
+AreDistinct (a ∷ more) = (list_any (has_key a.task a.id) more ≡ false) × AreDistinct more
