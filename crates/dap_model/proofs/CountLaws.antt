@@ -1,7 +1,8 @@
 -- What a collection prints, in the measurements of the lines before it.
-use Rattle.std.proofs.Common.{◌≡◌, ◌⊎◌, ℕ, ◌+◌, ◌%◌, List, [], ◌∷◌, ◌++◌, length, Bool, cond, true, false, not, ◌&&◌, ◌||◌, nat_eq, nat_le, is_none, is_some, Option, Some, None, refl, sym, ap, subst, ◌∙◌, inl, inr, arith, append-nil, append_assoc}
+use Rattle.std.proofs.Common.{◌≡◌, ◌⊎◌, ℕ, ◌+◌, ◌%◌, List, [], ◌∷◌, ◌++◌, length, Bool, cond, true, false, not, ◌&&◌, ◌||◌, nat_eq, nat_le, count_by, length-append, zero-add, is_none, is_some, Option, Some, None, refl, sym, ap, subst, ◌∙◌, inl, inr, arith, append-nil, append_assoc}
 use Rattle.std.proofs.lemmas.Bool.{eq-eqb, or_from, or_parts}
 use Rattle.std.proofs.lemmas.List.Folds.{list_any-append}
+use Rattle.std.proofs.lemmas.List.Sums.{sum_by-cons}
 use Rattle.std.proofs.lemmas.Slice.Eq.{bytes_eq-Decides}
 use Rattle.std.specs.List.{find, list_any}
 use Rattle.std.specs.Option.{option_map_or, option_to_list}
@@ -21,8 +22,8 @@ use Rattle.dap_script.specs.declared.line.Line.TheVariants as line
 use Rattle.dap_model.proofs.ChangeLaws.{changes_named}
 use Rattle.dap_model.proofs.OnceLaws.{is_some-known_in}
 use Rattle.dap_model.specs.Changes.{AddsBatch}
-use Rattle.dap_model.specs.Counts.{AreTaken, IsTaken, IsTakenLine, collects, counted, falls_in, measured, measures, vectors_in}
-use Rattle.dap_model.specs.Run.{state_after}
+use Rattle.dap_model.specs.Counts.{AreTaken, IsTaken, IsTakenLine, collects, counted, falls_in, is_collection, measured, measures, vectors_in}
+use Rattle.dap_model.specs.Run.{printed_from, state_after}
 use Rattle.dap_model.specs.State.{Accepted, Batch, State, batch_of, content_of, contents_in, has_key, in_batch, is_batch, is_collected, known_in, opening, rejected_in, report_of}
 use Rattle.dap_model.specs.Step.{Outcome, after_judgement, collect_of, is_due, measure_of, offered, refused, step}
 use Rattle.dap_model.specs.declared.printed.Printed.{Printed}
@@ -59,6 +60,9 @@ prints true false e h true s t refusal a b = refl
 prints true false e h false s t refusal a b = refl
 prints true true e h enough s t refusal a b = cc h
 prints false closed e h enough s t refusal a b = cc e
+
+count_by-cons : (task : PlainTask) (start : ℕ) (l : Line) (more : List Line) → count_by (falls_in task start) (l ∷ more) ≡ one_if (falls_in task start l) + count_by (falls_in task start) more
+count_by-cons task start l more = sum_by-cons (λ x. cond (falls_in task start x) 1 0) l more
 
 module _ (f : Kind → Functions) (tasks : List PlainTask) where
   -- the report of a measurement
@@ -122,7 +126,7 @@ module _ (f : Kind → Functions) (tasks : List PlainTask) where
   }
 
   taken_step : (done : List Line) (s : State) (k : ℕ) (name id : List ℕ) (time value : ℕ) (seed : List ℕ) → Stands done s → (t : IsTaken f tasks done name id time value seed)
-      → (step f s k (line.Measure name id time value seed)).0 ≡ record s { accepted = s.accepted ++ report_with t.task id time t.shares ∷ [] }
+      → step f s k (line.Measure name id time value seed) ≡ (record s { accepted = s.accepted ++ report_with t.task id time t.shares ∷ [] }, [])
   taken_step done s k name id time value seed h t =
       let a : Accepted = report_with t.task id time t.shares in
       let closed : Bool = is_collected s.collected t.task.name (batch_of time t.task.precision) in
@@ -132,9 +136,9 @@ module _ (f : Kind → Functions) (tasks : List PlainTask) where
       let unknown : known_in s.accepted t.task.name id ≡ None = none_known (known_in s.accepted t.task.name id) (is_some-known_in s.accepted t.task.name id ∙ none) in
       let open_ : closed ≡ false = ap (λ (n : List ℕ). is_collected s.collected n (batch_of time t.task.precision)) named ∙ h.collected name (batch_of time t.task.precision) t.uncollected in
       let found : find (has_name name) s.tasks ≡ Some t.task = ap (find (has_name name)) h.known ∙ t.known in
-      ap (λ (o : Option PlainTask). (option_map_or (measure_of f s k id time value seed) o (refused s k cause.Task)).0) found
-      ∙ ap (λ (o : Option Parts). (option_map_or (λ p. offered s k t.task (report_with t.task id time p)) o (refused s k cause.Value)).0) t.shared
-      ∙ ap (λ (j : Judged). (after_judgement s k a j).0) (judged_added (known_in s.accepted t.task.name id) s.moment closed (report_of a) time unknown h.moment open_)
+      ap (λ (o : Option PlainTask). option_map_or (measure_of f s k id time value seed) o (refused s k cause.Task)) found
+      ∙ ap (λ (o : Option Parts). option_map_or (λ p. offered s k t.task (report_with t.task id time p)) o (refused s k cause.Value)) t.shared
+      ∙ ap (after_judgement s k a) (judged_added (known_in s.accepted t.task.name id) s.moment closed (report_of a) time unknown h.moment open_)
 
   made_is : (done : List Line) (name id : List ℕ) (time value : ℕ) (seed : List ℕ) (t : IsTaken f tasks done name id time value seed)
       → made_by (line.Measure name id time value seed) ≡ report_with t.task id time t.shares ∷ []
@@ -146,7 +150,7 @@ module _ (f : Kind → Functions) (tasks : List PlainTask) where
       → Stands (done ++ line.Measure name id time value seed ∷ []) (step f s k (line.Measure name id time value seed)).0
   measured_stands done s k name id time value seed h t =
       let l : Line = line.Measure name id time value seed in
-      subst (Stands (done ++ l ∷ [])) (sym (taken_step done s k name id time value seed h t))
+      subst (Stands (done ++ l ∷ [])) (sym (ap (λ (o : Outcome). o.0) (taken_step done s k name id time value seed h t)))
       (record {
         known = h.known;
         moment = h.moment;
@@ -188,12 +192,32 @@ module _ (f : Kind → Functions) (tasks : List PlainTask) where
   pub opening_stands : Stands [] (opening tasks)
   opening_stands = record { known = refl; moment = refl; accepted = refl; collected = λ name start e. refl }
 
+  line_prints : (done : List Line) (s : State) (k : ℕ) (l : Line) → Stands done s → IsTakenLine f tasks done l → is_collection l ≡ false → (step f s k l).1 ≡ []
+  line_prints done s k line.Blank h t e = refl
+  line_prints done s k (line.Task name kind min precision) h t e = refl
+  line_prints done s k (line.Now moment) h t e = refl
+  line_prints done s k (line.Measure name id time value seed) h t e = ap (λ (o : Outcome). o.1) (taken_step done s k name id time value seed h t)
+  line_prints done s k (line.Upload report) h t e = refl
+  line_prints done s k (line.Collect name start) h t e = cc e
+  line_prints done s k (line.Restart node) h t e = refl
+
+  run_prints : (done : List Line) (s : State) (k : ℕ) (lines : List Line) → Stands done s → AreTaken f tasks done lines → list_any is_collection lines ≡ false → printed_from f s k lines ≡ []
+  run_prints done s k [] h t e = refl
+  run_prints done s k (l ∷ more) h t e =
+      let p = or_parts (is_collection l) (list_any is_collection more) e in
+      ap (λ (printed : List Printed). printed ++ printed_from f (step f s k l).0 (k + 1) more) (line_prints done s k l h t.0 p.0)
+      ∙ run_prints (done ++ l ∷ []) (step f s k l).0 (k + 1) more (step_stands done s k l h t.0) t.1 p.1
+
+  pub measurements_print_nothing : (lines : List Line) → AreTaken f tasks [] lines → list_any is_collection lines ≡ false → printed_from f (opening tasks) 1 lines ≡ []
+  measurements_print_nothing lines t e = run_prints [] (opening tasks) 1 lines opening_stands t e
+
   -- ---- what a batch's reports come to
 
   -- what a report adds to the contents and to the rejected ones, and what its line adds to the vectors
   record Head (task : PlainTask) (start : ℕ) (a : Accepted) (l : Line) : Type 0 where
     contents : cond (in_batch task start a) (option_to_list (content_of f task a)) [] ≡ cond (falls_in task start l) (option_to_list (measured (f task.kind) l)) []
     rejected : one_if (in_batch task start a && is_none (content_of f task a)) ≡ 0
+    reports : length (cond (falls_in task start l) (option_to_list (measured (f task.kind) l)) []) ≡ one_if (falls_in task start l)
 
   head_is : ((k : Kind) → IsKind k → FunctionLaws (f k)) → (task : PlainTask) → find (has_name task.name) tasks ≡ Some task → (start : ℕ)
       (done : List Line) (name id : List ℕ) (time value : ℕ) (seed : List ℕ) (t : IsTaken f tasks done name id time value seed)
@@ -219,6 +243,7 @@ module _ (f : Kind → Functions) (tasks : List PlainTask) where
             contents = ap (λ b. cond b (option_to_list (content_of f task a)) []) (inside ∙ e) ∙ ap option_to_list here
                 ∙ sym (ap (λ b. cond b (option_to_list ((f task.kind).encoding value)) []) e);
             rejected = ap (λ b. one_if (b && is_none (content_of f task a))) (inside ∙ e) ∙ ap (λ (o : Option (List ℕ)). one_if (is_none o)) (here ∙ there);
+            reports = ap (λ b. length (cond b (option_to_list ((f task.kind).encoding value)) [])) e ∙ ap (λ (o : Option (List ℕ)). length (option_to_list o)) there ∙ sym (ap one_if e);
           }
       go false e =
           let a : Accepted = report_with t.task id time t.shares in
@@ -226,15 +251,17 @@ module _ (f : Kind → Functions) (tasks : List PlainTask) where
             contents = ap (λ b. cond b (option_to_list (content_of f task a)) []) (inside ∙ e)
                 ∙ sym (ap (λ b. cond b (option_to_list ((f task.kind).encoding value)) []) e);
             rejected = ap (λ b. one_if (b && is_none (content_of f task a))) (inside ∙ e);
+            reports = ap (λ b. length (cond b (option_to_list ((f task.kind).encoding value)) [])) e ∙ sym (ap one_if e);
           }
 
   record Same (task : PlainTask) (start : ℕ) (lines : List Line) : Type 0 where
     contents : contents_in f task start (reports_of lines) ≡ vectors_in (f task.kind) task start lines
     rejected : rejected_in f task start (reports_of lines) ≡ 0
+    reports : length (vectors_in (f task.kind) task start lines) ≡ count_by (falls_in task start) lines
 
   contents_are : ((k : Kind) → IsKind k → FunctionLaws (f k)) → (task : PlainTask) → find (has_name task.name) tasks ≡ Some task → (start : ℕ)
       (done lines : List Line) → AreTaken f tasks done lines → Same task start lines
-  contents_are laws task known start done [] t = record { contents = refl; rejected = refl }
+  contents_are laws task known start done [] t = record { contents = refl; rejected = refl; reports = refl }
   contents_are laws task known start done (line.Measure name id time value seed ∷ more) t =
       let l : Line = line.Measure name id time value seed in
       let a : Accepted = report_with t.0.task id time t.0.shares in
@@ -247,23 +274,26 @@ module _ (f : Kind → Functions) (tasks : List PlainTask) where
             ∙ ap (λ c. cond (falls_in task start l) (option_to_list (measured (f task.kind) l)) [] ++ c) rest.contents;
         rejected = ap (rejected_in f task start) made
             ∙ ap (λ (n : ℕ). n + rejected_in f task start (reports_of more)) head.rejected ∙ ap (λ (n : ℕ). 0 + n) rest.rejected;
+        reports = length-append (cond (falls_in task start l) (option_to_list (measured (f task.kind) l)) []) (vectors_in (f task.kind) task start more)
+            ∙ ap (λ (n : ℕ). n + length (vectors_in (f task.kind) task start more)) head.reports ∙ ap (λ (n : ℕ). one_if (falls_in task start l) + n) rest.reports
+            ∙ sym (count_by-cons task start l more);
       }
   contents_are laws task known start done (line.Blank ∷ more) t =
       let rest = contents_are laws task known start (done ++ line.Blank ∷ []) more t.1 in
-      record { contents = rest.contents; rejected = rest.rejected }
+      record { contents = rest.contents; rejected = rest.rejected; reports = rest.reports ∙ sym (count_by-cons task start (line.Blank) more ∙ zero-add (count_by (falls_in task start) more)) }
   contents_are laws task known start done (line.Task name kind min precision ∷ more) t =
       let rest = contents_are laws task known start (done ++ line.Task name kind min precision ∷ []) more t.1 in
-      record { contents = rest.contents; rejected = rest.rejected }
+      record { contents = rest.contents; rejected = rest.rejected; reports = rest.reports ∙ sym (count_by-cons task start (line.Task name kind min precision) more ∙ zero-add (count_by (falls_in task start) more)) }
   contents_are laws task known start done (line.Now moment ∷ more) t = absurd t.0
   contents_are laws task known start done (line.Upload report ∷ more) t =
       let rest = contents_are laws task known start (done ++ line.Upload report ∷ []) more t.1 in
-      record { contents = rest.contents; rejected = rest.rejected }
+      record { contents = rest.contents; rejected = rest.rejected; reports = rest.reports ∙ sym (count_by-cons task start (line.Upload report) more ∙ zero-add (count_by (falls_in task start) more)) }
   contents_are laws task known start done (line.Collect name from ∷ more) t =
       let rest = contents_are laws task known start (done ++ line.Collect name from ∷ []) more t.1 in
-      record { contents = rest.contents; rejected = rest.rejected }
+      record { contents = rest.contents; rejected = rest.rejected; reports = rest.reports ∙ sym (count_by-cons task start (line.Collect name from) more ∙ zero-add (count_by (falls_in task start) more)) }
   contents_are laws task known start done (line.Restart node ∷ more) t =
       let rest = contents_are laws task known start (done ++ line.Restart node ∷ []) more t.1 in
-      record { contents = rest.contents; rejected = rest.rejected }
+      record { contents = rest.contents; rejected = rest.rejected; reports = rest.reports ∙ sym (count_by-cons task start (line.Restart node) more ∙ zero-add (count_by (falls_in task start) more)) }
 
   pub batch_is_counted : ((k : Kind) → IsKind k → FunctionLaws (f k)) → (task : PlainTask) → find (has_name task.name) tasks ≡ Some task → (start k : ℕ) (lines : List Line)
       → start % task.precision ≡ 0 → AreTaken f tasks [] lines → list_any (collects task.name start) lines ≡ false
@@ -285,3 +315,6 @@ module _ (f : Kind → Functions) (tasks : List PlainTask) where
       ∙ ap (λ (r : ℕ). cond (nat_le task.min (length (vectors_in g task start lines)))
       (Collected task.name start (record { reports = length (vectors_in g task start lines); rejected = r; answer = g.answer (total_numbers g.space (vectors_in g task start lines)) }))
       (Small task.name start (length (vectors_in g task start lines))) ∷ []) rejected
+      ∙ ap (λ (n : ℕ). cond (nat_le task.min n)
+      (Collected task.name start (record { reports = n; rejected = 0; answer = g.answer (total_numbers g.space (vectors_in g task start lines)) }))
+      (Small task.name start n) ∷ []) same.reports

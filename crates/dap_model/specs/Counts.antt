@@ -1,5 +1,5 @@
 -- What a collection prints, in the measurements of the lines before it.
-use Rattle.std.specs.Prelude.{◌≡◌, ℕ, List, [], ◌∷◌, ◌++◌, length, Bool, true, false, ◌&&◌, nat_eq, nat_le, if◌then◌else◌, Option, Some, None}
+use Rattle.std.specs.Prelude.{◌≡◌, ℕ, List, [], ◌∷◌, ◌++◌, length, count_by, Bool, true, false, ◌&&◌, nat_eq, nat_le, if◌then◌else◌, Option, Some, None}
 use Rattle.std.specs.List.{find, list_any}
 use Rattle.std.specs.Option.{option_to_list}
 use Rattle.std.specs.Str.{bytes_eq}
@@ -43,6 +43,16 @@ collects name start (line.Now t) = false
 collects name start (line.Measure task id time value seed) = false
 collects name start (line.Upload report) = false
 collects name start (line.Restart node) = false
+
+-- a collection
+abbrev pub is_collection : Line → Bool
+is_collection (line.Collect task from) = true
+is_collection line.Blank = false
+is_collection (line.Task task kind min precision) = false
+is_collection (line.Now t) = false
+is_collection (line.Measure task id time value seed) = false
+is_collection (line.Upload report) = false
+is_collection (line.Restart node) = false
 
 -- the vector that a line's value is under a function, where the line measures one
 abbrev pub measured : Functions → Line → Option (List ℕ)
@@ -92,7 +102,8 @@ AreTaken f tasks done (l ∷ more) = IsTakenLine f tasks done l × AreTaken f ta
 -- The batch has as many reports as measurements fall in it, and its answer is that of the sum of their vectors.
 abbrev pub counted : (Kind → Functions) → PlainTask → ℕ → List Line → Printed
 counted f task start lines =
+    let reports = count_by (falls_in task start) lines in
     let vectors = vectors_in (f task.kind) task start lines in
-    if nat_le task.min (length vectors)
-    then (Collected task.name start (record { reports = length vectors; rejected = 0; answer = (f task.kind).answer (total_numbers (f task.kind).space vectors) }))
-    else (Small task.name start (length vectors))
+    if nat_le task.min reports
+    then (Collected task.name start (record { reports = reports; rejected = 0; answer = (f task.kind).answer (total_numbers (f task.kind).space vectors) }))
+    else (Small task.name start reports)

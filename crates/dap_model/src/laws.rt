@@ -8,8 +8,8 @@ ghost use Rattle.dap_tasks.specs.Task.{PlainTask, has_name};
 ghost use Rattle.dap_script.specs.declared.line.Line.{Line as PlainLine};
 ghost use Rattle.dap_script.specs.declared.line.Line.TheVariants.{Collect};
 ghost use Rattle.dap_model.specs.Changes.{AreDistinct, ChangesNamed};
-ghost use Rattle.dap_model.specs.Counts.{AreTaken, collects, counted};
-ghost use Rattle.dap_model.specs.Run.{state_after};
+ghost use Rattle.dap_model.specs.Counts.{AreTaken, collects, counted, is_collection};
+ghost use Rattle.dap_model.specs.Run.{printed_from, state_after};
 ghost use Rattle.dap_model.specs.State.{State, opening};
 ghost use Rattle.dap_model.specs.Step.{step};
 
@@ -23,6 +23,12 @@ pub fn batches_are_counted<V: Vdaf>(_: &V)
         → find (has_name task.name) tasks ≡ Some task → start % task.precision ≡ 0
         → AreTaken V.of_kind tasks [] lines → list_any (collects task.name start) lines ≡ false
         → (step V.of_kind (state_after V.of_kind (opening tasks) 1 lines) number (Collect task.name start)).1 ≡ counted V.of_kind task start lines ∷ [] }
+{}
+
+/// A law: such lines print nothing, if none of them is a collection.
+pub fn measurements_print_nothing()
+    ensures { (f : Kind → Functions) (tasks : List PlainTask) (lines : List PlainLine)
+        → AreTaken f tasks [] lines → list_any is_collection lines ≡ false → printed_from f (opening tasks) 1 lines ≡ [] }
 {}
 
 /// A law: a line changes nothing but what it names.
