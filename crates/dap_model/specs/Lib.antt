@@ -1,4 +1,5 @@
 pub mod Changes
+pub mod Counts
 pub mod Printed
 pub mod Run
 pub mod State

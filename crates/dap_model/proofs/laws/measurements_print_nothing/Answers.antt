@@ -1,0 +1,5 @@
+use Rattle.dap_model.proofs.CountLaws.{measurements_print_nothing}
+use Rattle.dap_model.proofs.laws.measurements_print_nothing.Goals as goal
+
+pub returns : goal.returns
+returns c f tasks lines taken none = measurements_print_nothing f tasks lines taken none
