@@ -16,7 +16,8 @@ import subprocess
 import sys
 from pathlib import Path
 
-PROGRAM = Path(__file__).resolve().parent.parent / "dap"
+TOP = Path(__file__).resolve().parent.parent
+PROGRAM = TOP / "crates" / "dap_program" / "out" / "dap_program"
 
 
 class Writer:
@@ -128,6 +129,8 @@ def main():
     parser.add_argument("--scripts", type=int, default=200)
     parser.add_argument("--seed", type=int, default=0)
     given = parser.parse_args()
+    # This builds the program where that is still to be done.
+    subprocess.run([str(TOP / "dap"), "--version"], capture_output=True, check=True)
     reference = [sys.executable, str(given.reference), "run", "--level", "R4", "-"]
     differ = 0
     statuses = {}
@@ -137,7 +140,7 @@ def main():
         statuses[theirs[0]] = statuses.get(theirs[0], 0) + 1
         if ours != theirs:
             differ += 1
-            print(f"script {number} differs: ours {ours}, the reference {theirs}")
+            print(f"script {number} differs: ours {ours}, the reference {theirs}", flush=True)
     told = ", ".join(f"{count} with status {status}" for status, count in sorted(statuses.items()))
     print(f"{given.scripts} scripts ({told}): {differ} differ")
     return 1 if differ else 0
