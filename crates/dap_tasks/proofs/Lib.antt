@@ -1,2 +1,14 @@
 pub mod DistinctLemmas
+pub mod DocumentLemmas
+pub mod FieldLaws
+pub mod FileLaws
+pub mod FileWidths
+pub mod ItemLemmas
 pub mod KeyLemmas
+pub mod KeysLemmas
+pub mod NodeWidths
+pub mod OtherLemmas
+pub mod Shorter
+pub mod TableLaws
+pub mod TasksLemmas
+pub mod Widths

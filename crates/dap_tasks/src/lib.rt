@@ -1,18 +1,28 @@
-//! Tasks: what is measured, in which batches, and with which keys; the known tasks with their measurement functions; and
-//! why a line or a report is refused.
+//! Tasks: what is measured, in which batches, and with which keys; the file that they are read from; the known tasks with
+//! their measurement functions; and why a line or a report is refused.
 #![tactic(auto)]
 
 mod cause;
+mod fault;
+mod fields;
+mod file;
 mod keys;
+mod laws;
+mod table;
 mod task;
 mod tasks;
 mod trials;
 
 pub use cause::{Cause, Judged};
+pub use fault::TasksFault;
+pub use file::read_tasks;
 pub use keys::SealKeys;
+pub use laws::{refusals_name_the_first_task, task_files_are_read};
 pub use task::Task;
 pub use tasks::Tasks;
 pub use trials::trial;
 
+#[cfg(test)]
+mod file_tests;
 #[cfg(test)]
 mod tests;

@@ -1,0 +1,171 @@
+//! Task files. What is refused, and where, was asked of an independent program.
+
+use super::*;
+use std::alloc::{AllocError, Global};
+use std::test::Fail;
+use vdaf_api::Kind;
+
+/// The file that the documents show.
+const EXAMPLE: &str = r#"[[task]]
+name = "v"
+kind = "count"
+min = 3
+precision = 3600
+verify = "000102030405060708090a0b0c0d0e0f"
+leader = "101112131415161718191a1b1c1d1e1f202122232425262728292a2b2c2d2e2f"
+helper = "303132333435363738393a3b3c3d3e3f404142434445464748494a4b4c4d4e4f"
+"#;
+
+/// Parts of the example, what stands in their place, and the refusal.
+const REFUSED: [(&str, &str, &str); 24] = [
+    ("[[task]]", "[task]", "task 0 field file"),
+    ("[[task]]", "[[tasks]]", "task 0 field file"),
+    ("[[task]]", "alpha = 1\n[[task]]", "task 0 field file"),
+    ("min = 3", "min = 9223372036854775808", "task 0 field file"),
+    (
+        "name = \"v\"\nkind = \"count\"",
+        "name = \"V\"\nkind = \"mean\"",
+        "task 1 field name",
+    ),
+    ("\"count\"", "\"mean\"", "task 1 field kind"),
+    (
+        "\"count\"\nmin = 3",
+        "\"sum\"\nmin = 0",
+        "task 1 field bits",
+    ),
+    ("\"count\"", "\"sum\"\nbits = 65", "task 1 field bits"),
+    ("\"count\"", "\"count\"\nbits = 8", "task 1 field bits"),
+    (
+        "\"count\"",
+        "\"histogram\"\nbounds = [5, 5]",
+        "task 1 field bounds",
+    ),
+    (
+        "\"count\"",
+        "\"histogram\"\nbounds = [-1]",
+        "task 1 field bounds",
+    ),
+    ("min = 3\n", "", "task 1 field min"),
+    ("min = 3", "min = \"3\"", "task 1 field min"),
+    (
+        "min = 3\nprecision = 3600",
+        "min = 1000001\nprecision = 0",
+        "task 1 field min",
+    ),
+    ("min = 3", "min = 0\nalpha = 1", "task 1 field min"),
+    ("3600", "1000000001", "task 1 field precision"),
+    ("\"00", "\"0g", "task 1 field verify"),
+    ("2e2f\"", "2e\"", "task 1 field leader"),
+    ("helper =", "helpers =", "task 1 field helper"),
+    (
+        "min = 3",
+        "min = 3\nzeta = 1\nalpha = 2",
+        "task 1 field alpha",
+    ),
+    (
+        "4e4f\"\n",
+        "4e4f\"\n[[task]]\nname = \"v\"\n",
+        "task 2 field name",
+    ),
+    (
+        "4e4f\"\n",
+        "4e4f\"\n[[task]]\nname = \"w\"\n",
+        "task 2 field kind",
+    ),
+    (
+        "4e4f\"\n",
+        "4e4f\"\nalpha = 1\n[[task]]\n",
+        "task 1 field alpha",
+    ),
+    ("4e4f\"\n", "4e4f\"\n[other]\n", "task 0 field file"),
+];
+
+/// What a file comes to, in words.
+fn answer(alloc: Global, text: &str) -> Result<String, AllocError> {
+    match read_tasks(alloc, text.as_bytes()) {
+        Ok(tasks) => format!(in alloc; "{} tasks", tasks.len()),
+        Err(fault) => format!(in alloc; "{fault}"),
+    }
+}
+
+#[test]
+fn the_example_is_one_task(rt: HostRuntime) -> Result<(), Fail> {
+    let tasks = read_tasks(rt.alloc(), EXAMPLE.as_bytes())?;
+    let [task] = tasks.as_slice() else {
+        return Err(Fail::from("one task"));
+    };
+    assert_eq!(rt; task.name.as_bytes(), b"v".as_slice());
+    assert!(rt; task.kind == Kind::Count);
+    assert_eq!(rt; (task.min, task.precision), (3, 3600));
+    let found = [
+        task.verify,
+        task.leader.enc,
+        task.leader.mac,
+        task.helper.enc,
+        task.helper.mac,
+    ];
+    for i in 0..5 {
+        let first = 0x000102030405060708090a0b0c0d0e0f
+            + i as u128 * 0x10101010101010101010101010101010;
+        assert_eq!(rt; u128::from_be_bytes(found[i]), first, "key {i}");
+    }
+    Ok(())
+}
+
+#[test]
+fn the_first_refusal_is_named(rt: HostRuntime) -> Result<(), Fail> {
+    let alloc = rt.alloc();
+    for (old, new, want) in &REFUSED {
+        let text = EXAMPLE.replace(alloc, *old, new)?;
+        assert_eq!(rt; answer(alloc, &text)?.as_str(), *want, "{new}");
+    }
+    Ok(())
+}
+
+#[test]
+fn ends_of_ranges_are_read(rt: HostRuntime) -> Result<(), Fail> {
+    let alloc = rt.alloc();
+    for (old, new) in [
+        ("\"count\"", "\"sum\"\nbits = 64"),
+        (
+            "\"count\"",
+            "\"histogram\"\nbounds = [0, 9223372036854775807]",
+        ),
+        ("min = 3", "min = 1000000"),
+        ("3600", "1000000000"),
+        ("2e2f", "2E2F"),
+    ] {
+        let text = EXAMPLE.replace(alloc, old, new)?;
+        assert_eq!(rt; answer(alloc, &text)?.as_str(), "1 tasks", "{new}");
+    }
+    Ok(())
+}
+
+#[test]
+fn short_files_are_read_or_refused(rt: HostRuntime) -> Result<(), Fail> {
+    let alloc = rt.alloc();
+    for (text, want) in [
+        ("", "task 0 field file"),
+        ("task = 1", "task 0 field file"),
+        ("task = [1]", "task 0 field file"),
+        ("task = [{}]", "task 1 field name"),
+        ("task = []", "0 tasks"),
+    ] {
+        assert_eq!(rt; answer(alloc, text)?.as_str(), want, "{text}");
+    }
+    assert!(rt; read_tasks(alloc, &[0xff]).is_err());
+    Ok(())
+}
+
+#[test]
+fn a_file_has_at_most_1048576_bytes(rt: HostRuntime) -> Result<(), Fail> {
+    let alloc = rt.alloc();
+    let mut text = String::from_str(alloc, "task = []\n")?;
+    for _ in text.len()..1_048_576 {
+        text.push(' ')?;
+    }
+    assert_eq!(rt; answer(alloc, &text)?.as_str(), "0 tasks");
+    text.push(' ')?;
+    assert_eq!(rt; answer(alloc, &text)?.as_str(), "task 0 field file");
+    Ok(())
+}
