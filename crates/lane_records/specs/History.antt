@@ -1,0 +1,45 @@
+-- What stands in a journal. Lists here have the newest record first: the records after one in the list are those before it in the journal.
+use Rattle.std.specs.Prelude.{◌≡◌, ℕ, suc, ◌≤◌, ◌⊎◌, List, [], ◌∷◌, Option, Some, None}
+use Rattle.std.specs.Option.{option_or}
+use Rattle.dap_batch.specs.Group.{lane_number}
+use Rattle.lane_records.specs.declared.record.Record.{Record}
+use Rattle.lane_records.specs.declared.record.Record.TheVariants.{LeaderOpen, HelperOpen, LeaderFrontOpen, HelperFrontOpen}
+
+-- ---- lists
+
+-- x stands in the list
+abbrev pub Mem : {A : Type 0} → A → List A → Type 0
+Mem x [] = ⊥
+Mem x (y ∷ ys) = (x ≡ y) ⊎ Mem x ys
+
+-- the first value that a function gives
+abbrev pub first : {A B : Type 0} → (A → Option B) → List A → Option B
+first f [] = None
+first f (x ∷ xs) = option_or (f x) (first f xs)
+
+-- ---- Opens
+
+-- the number of lanes that an Open names
+abbrev pub lanes_in : Record → Option ℕ
+lanes_in (LeaderOpen lanes lane) = Some lanes
+lanes_in (HelperOpen lanes lane) = Some lanes
+lanes_in (LeaderFrontOpen lanes) = Some lanes
+lanes_in (HelperFrontOpen lanes) = Some lanes
+lanes_in _ = None
+
+abbrev pub count_some : {A : Type 0} → Option A → ℕ → ℕ
+count_some None n = n
+count_some (Some x) n = suc n
+
+-- how many Opens there are
+abbrev pub opens : List Record → ℕ
+opens [] = 0
+opens (x ∷ old) = count_some (lanes_in x) (opens old)
+
+-- 1 to 16 lanes, as in each Open before
+abbrev pub HasLanes : ℕ → List Record → Type 0
+HasLanes lanes old = (1 ≤ lanes) × (lanes ≤ 16) × ((x : Record) (n : ℕ) → Mem x old → lanes_in x ≡ Some n → n ≡ lanes)
+
+-- among the lanes that an Open before names, the identifier's is this one
+abbrev pub IsOfLane : ℕ → List ℕ → List Record → Type 0
+IsOfLane lane id old = (x : Record) × (lanes : ℕ) × Mem x old × (lanes_in x ≡ Some lanes) × (1 ≤ lanes) × (lane_number id lanes ≡ lane)

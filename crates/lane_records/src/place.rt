@@ -1,0 +1,30 @@
+//! Where a lane stands, and why a lane or a front refuses.
+
+use thiserror::Error;
+
+/// The place of a lane: how many lanes its node has, 1 to 16, and which of them it is, from 0.
+#[derive(Clone, Copy, Debug, PartialEq, Eq)]
+pub struct Place {
+    pub lanes: u8,
+    pub lane: u8,
+}
+
+/// Why a lane refuses a call.
+#[derive(Clone, Copy, Debug, PartialEq, Eq, Error)]
+pub enum LaneFault {
+    /// Its disk stopped for good, or too often.
+    #[error("the lane's disk stopped")]
+    Stopped,
+    #[error("out of memory")]
+    NoMemory,
+}
+
+/// Why a front refuses a call.
+#[derive(Clone, Copy, Debug, PartialEq, Eq, Error)]
+pub enum FrontFault {
+    /// Its disk stopped for good, or too often.
+    #[error("the front's disk stopped")]
+    Stopped,
+    #[error("out of memory")]
+    NoMemory,
+}

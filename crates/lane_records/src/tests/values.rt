@@ -1,0 +1,240 @@
+//! Records as values, and their spellings.
+
+use super::{RECORDS, spelling};
+use crate::{Answered, Closed, Outcome, Record, Request, Response, StoredTask};
+use dap_bytes::{Bytes, Name};
+use dap_messages::{Code, Half, Items, JobNo, Reply, Report, Step, Tagged};
+use dap_tasks::SealKeys;
+use std::alloc::Global;
+use std::test::Fail;
+use vdaf_api::{Bounds, Kind};
+
+fn name(text: &[u8]) -> Result<Name, Fail> {
+    match Name::new(text) {
+        Some(name) => Ok(name),
+        None => Err("not a name".into()),
+    }
+}
+
+fn bytes(alloc: Global, text: &[u8]) -> Result<Bytes, Fail> {
+    Ok(Bytes::new(text.to_vec(alloc)?))
+}
+
+/// Two items: the first and the other report.
+fn two<B: Drop>(alloc: Global, first: B, other: B) -> Result<Items<B>, Fail> {
+    let mut items = Vec::new(alloc);
+    items.push(Tagged {
+        id: *b"the first report",
+        body: first,
+    })?;
+    items.push(Tagged {
+        id: *b"the other report",
+        body: other,
+    })?;
+    Ok(Items::new(items))
+}
+
+/// A job's number.
+const JOB: JobNo = JobNo {
+    lane: 2,
+    incarnation: 3,
+    counter: 4,
+};
+
+fn outcomes(alloc: Global) -> Result<Items<Outcome>, Fail> {
+    let share = bytes(alloc, b"out")?;
+    two(
+        alloc,
+        Outcome::Finished(share),
+        Outcome::Failed(Code::ReportReplayed),
+    )
+}
+
+fn closed(alloc: Global) -> Result<Closed, Fail> {
+    Ok(Closed {
+        count: 2,
+        rejected: 1,
+        checksum: *b"the checksum of the identifiers.",
+        share: bytes(alloc, b"sum")?,
+    })
+}
+
+fn report(alloc: Global) -> Result<Report, Fail> {
+    Ok(Report {
+        name: name(b"v")?,
+        id: *b"the first report",
+        time: 10,
+        public: bytes(alloc, b"")?,
+        leader: bytes(alloc, b"one")?,
+        helper: bytes(alloc, b"two")?,
+    })
+}
+
+fn steps(alloc: Global) -> Result<Items<Step>, Fail> {
+    let prep = bytes(alloc, b"prep")?;
+    two(
+        alloc,
+        Step::Continued(prep),
+        Step::Failed(Code::VdafPrepError),
+    )
+}
+
+fn halves(alloc: Global) -> Result<Items<Half>, Fail> {
+    let mut items = Vec::new(alloc);
+    let half = Half {
+        time: 10,
+        public: bytes(alloc, b"")?,
+        helper: bytes(alloc, b"two")?,
+    };
+    items.push(Tagged {
+        id: *b"the first report",
+        body: half,
+    })?;
+    Ok(Items::new(items))
+}
+
+fn task(kind: Kind, min: u32, precision: u32) -> Result<StoredTask, Fail> {
+    Ok(StoredTask {
+        name: name(b"v")?,
+        kind,
+        min,
+        precision,
+        verify: *b"the verify key..",
+        keys: SealKeys {
+            enc: *b"the cipher key..",
+            mac: *b"the key of tags.",
+        },
+    })
+}
+
+fn histogram(alloc: Global, bounds: &[u64]) -> Result<Kind, Fail> {
+    Ok(Kind::Histogram {
+        bounds: Bounds::new(bounds.to_vec(alloc)?),
+    })
+}
+
+/// The records of lanes that `RECORDS` begins with, in its order.
+fn lane_records(alloc: Global) -> Result<[Record; 9], Fail> {
+    Ok([
+        Record::LeaderOpen(4, 3),
+        Record::Accept(report(alloc)?),
+        Record::Continue(name(b"v")?, JOB, steps(alloc)?),
+        Record::Finish(JOB, outcomes(alloc)?),
+        Record::LeaderClose(name(b"v")?, 3600, closed(alloc)?),
+        Record::HelperOpen(4, 3),
+        Record::Start(JOB, name(b"v")?, halves(alloc)?),
+        Record::Commit(JOB, outcomes(alloc)?),
+        Record::HelperClose(name(b"v")?, 3600, closed(alloc)?),
+    ])
+}
+
+fn answered(alloc: Global) -> Result<Answered, Fail> {
+    Ok(Answered {
+        count: 2,
+        rejected: 1,
+        leader: bytes(alloc, b"one")?,
+        helper: bytes(alloc, b"two")?,
+    })
+}
+
+fn exchange(alloc: Global) -> Result<Record, Fail> {
+    let request = Request {
+        name: name(b"v")?,
+        start: 3600,
+        count: 2,
+        checksum: *b"the checksum of the identifiers.",
+    };
+    let response = Response {
+        name: name(b"v")?,
+        start: 3600,
+        reply: Reply::Share(bytes(alloc, b"two")?),
+    };
+    Ok(Record::HelperAnswer(request, response))
+}
+
+/// The records of fronts that `RECORDS` ends with, in its order.
+fn front_records(alloc: Global) -> Result<[Record; 7], Fail> {
+    Ok([
+        Record::LeaderFrontOpen(4),
+        Record::LeaderTask(task(Kind::Sum { bits: 8 }, 10, 3600)?),
+        Record::Ask(name(b"v")?, 3600),
+        Record::LeaderAnswer(name(b"v")?, 3600, answered(alloc)?),
+        Record::HelperFrontOpen(4),
+        Record::HelperTask(task(histogram(alloc, &[5, 9])?, 10, 3600)?),
+        exchange(alloc)?,
+    ])
+}
+
+#[test]
+fn each_form_is_written_field_by_field(rt: HostRuntime) -> Result<(), Fail> {
+    let alloc = rt.alloc();
+    for (record, bytes) in lane_records(alloc)?.iter().zip(RECORDS.iter()) {
+        assert_eq!(rt; spelling(alloc, record)?.as_slice(), *bytes);
+    }
+    for (record, bytes) in front_records(alloc)?.iter().zip(RECORDS[9..].iter()) {
+        assert_eq!(rt; spelling(alloc, record)?.as_slice(), *bytes);
+    }
+    Ok(())
+}
+
+/// Tasks that are out of range in one place each.
+fn wrong_tasks(alloc: Global) -> Result<[StoredTask; 10], Fail> {
+    Ok([
+        task(Kind::Count, 0, 1)?,
+        task(Kind::Count, 1_000_001, 1)?,
+        task(Kind::Count, 1, 0)?,
+        task(Kind::Count, 1, 1_000_000_001)?,
+        task(Kind::Sum { bits: 0 }, 1, 1)?,
+        task(Kind::Sum { bits: 65 }, 1, 1)?,
+        task(histogram(alloc, &[])?, 1, 1)?,
+        task(histogram(alloc, &[5, 5])?, 1, 1)?,
+        task(histogram(alloc, &[1, 9, 5])?, 1, 1)?,
+        task(histogram(alloc, &[7; 64])?, 1, 1)?,
+    ])
+}
+
+/// So many items, all of the same report.
+fn same(alloc: Global, count: u8) -> Result<Items<Outcome>, Fail> {
+    let mut items = Vec::new(alloc);
+    for _ in 0..count {
+        items.push(Tagged {
+            id: [7; 16],
+            body: Outcome::Failed(Code::BatchCollected),
+        })?;
+    }
+    Ok(Items::new(items))
+}
+
+/// Other records that no bytes spell.
+fn wrong_records(alloc: Global) -> Result<[Record; 6], Fail> {
+    let long = Closed {
+        count: 0,
+        rejected: 0,
+        checksum: [0; 32],
+        share: bytes(alloc, &[0; 16_385])?,
+    };
+    let mut late = report(alloc)?;
+    late.time = 1_000_000_000_000_000_000;
+    Ok([
+        Record::Accept(late),
+        Record::Ask(name(b"v")?, 1_000_000_000_000_000_000),
+        Record::LeaderClose(name(b"v")?, 0, long),
+        Record::Finish(JOB, same(alloc, 0)?),
+        Record::Commit(JOB, same(alloc, 2)?),
+        Record::HelperClose(name(b"v")?, u64::MAX, closed(alloc)?),
+    ])
+}
+
+#[test]
+fn values_outside_the_forms_are_told(rt: HostRuntime) -> Result<(), Fail> {
+    let alloc = rt.alloc();
+    for task in wrong_tasks(alloc)? {
+        let record = Record::LeaderTask(task);
+        assert!(rt; !record.is_allowed());
+    }
+    for record in wrong_records(alloc)? {
+        assert!(rt; !record.is_allowed());
+    }
+    assert!(rt; Record::Finish(JOB, same(alloc, 1)?).is_allowed());
+    Ok(())
+}
