@@ -1,3 +1,4 @@
+pub mod CountLemmas
 pub mod HexLaws
 pub mod KindLaws
 pub mod LineLaws
@@ -7,6 +8,7 @@ pub mod NameLaws
 pub mod NumberLaws
 pub mod NumberLemmas
 pub mod OptionLemmas
+pub mod PrintLemmas
 pub mod ReportLaws
 pub mod ReportLemmas
 pub mod ScriptLaws

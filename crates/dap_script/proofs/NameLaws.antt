@@ -1,9 +1,12 @@
--- No name stands in two task lines exactly where each line may follow those before it.
+-- No name stands in two task lines, and none of the names in one, exactly where each line may follow those before it.
 use Rattle.std.proofs.Common.{◌≡◌, ℕ, List, [], ◌∷◌, ◌++◌, Bool, true, false, ◌||◌, not, refl, sym, ap, subst, ◌∙◌}
+use Rattle.std.proofs.lemmas.Bool.{or_from, or_parts}
+use Rattle.std.proofs.lemmas.List.Elements.{All-append, All-cons, All-head, All-nil}
 use Rattle.std.proofs.lemmas.List.{append-nil, append_assoc}
-use Rattle.std.specs.List.{AllByRecursion, IsDistinct, list_any}
+use Rattle.std.specs.List.{All, AllByRecursion, IsDistinct, list_any}
 use Rattle.std.specs.Str.{bytes_eq}
-use Rattle.dap_script.specs.Script.{follows, names_task, task_name, task_names}
+use Rattle.dap_script.proofs.WordLaws.{All-left, All-right}
+use Rattle.dap_script.specs.Script.{follows, is_among, names_task, task_name, task_names}
 use Rattle.dap_script.specs.declared.line.Line.TheVariants.{Blank, Collect, Measure, Now, Restart, Task, Upload}
 use Rattle.dap_script.specs.declared.line.Line.{Line}
 
@@ -72,33 +75,60 @@ negated : (b : Bool) → not b ≡ true → b ≡ false
 negated true h = cc h
 negated false h = refl
 
-no_new_name : (before : List Line) → AreDistinct (task_names before) → (line : Line) → task_names (line ∷ []) ≡ [] → AreDistinct (task_names (before ++ line ∷ []))
-no_new_name before h line none =
-    rw (task_names-append before (line ∷ []), none, append-nil (task_names before)) h
+-- lines whose tasks have different names, and none of these
+pub record AreFree (names : List (List ℕ)) (lines : List Line) : Type 0 where
+  pub distinct : AreDistinct (task_names lines)
+  pub others : All (λ name. is_among names name ≡ false) (task_names lines)
+
+pub free_none : (names : List (List ℕ)) → AreFree names []
+unfolding IsDistinct
+free_none names = record { distinct = tt; others = All-nil (λ name. is_among names name ≡ false) }
+
+no_new_name : (names : List (List ℕ)) (before : List Line) → AreFree names before → (line : Line) → task_names (line ∷ []) ≡ [] → AreFree names (before ++ line ∷ [])
+no_new_name names before h line none =
+    let same : task_names (before ++ line ∷ []) ≡ task_names before =
+    task_names-append before (line ∷ []) ∙ ap (λ (new : List (List ℕ)). task_names before ++ new) none ∙ append-nil (task_names before) in
+    record {
+      distinct = subst AreDistinct (sym same) h.distinct;
+      others = subst (All (λ name. is_among names name ≡ false)) (sym same) h.others;
+    }
 
 -- one more line
-pub distinct_next : (before : List Line) (line : Line) → AreDistinct (task_names before) → follows before line ≡ true → AreDistinct (task_names (before ++ line ∷ []))
-distinct_next before (Task name kind min precision) h f =
-    rw (task_names-append before (Task name kind min precision ∷ []))
-    (distinct-push (task_names before) name h (sym (any_names name before) ∙ negated (list_any (names_task name) before) f))
-distinct_next before Blank h f = no_new_name before h Blank refl
-distinct_next before (Now t) h f = no_new_name before h (Now t) refl
-distinct_next before (Measure name id time value seed) h f = no_new_name before h (Measure name id time value seed) refl
-distinct_next before (Upload report) h f = no_new_name before h (Upload report) refl
-distinct_next before (Collect name start) h f = no_new_name before h (Collect name start) refl
-distinct_next before (Restart node) h f = no_new_name before h (Restart node) refl
+pub free_next : (names : List (List ℕ)) (before : List Line) (line : Line) → AreFree names before → follows names before line ≡ true → AreFree names (before ++ line ∷ [])
+free_next names before (Task name kind min precision) h f =
+    let new = or_parts (is_among names name) (list_any (names_task name) before) (negated _ f) in
+    let all : task_names (before ++ Task name kind min precision ∷ []) ≡ task_names before ++ name ∷ [] = task_names-append before (Task name kind min precision ∷ []) in
+    let Other : List ℕ → Type 0 = λ x. is_among names x ≡ false in
+    record {
+      distinct = subst AreDistinct (sym all) (distinct-push (task_names before) name h.distinct (sym (any_names name before) ∙ new.1));
+      others = subst (All Other) (sym all) (All-append Other (task_names before) (name ∷ []) h.others (All-cons Other name [] new.0 (All-nil Other)));
+    }
+free_next names before Blank h f = no_new_name names before h Blank refl
+free_next names before (Now t) h f = no_new_name names before h (Now t) refl
+free_next names before (Measure name id time value seed) h f = no_new_name names before h (Measure name id time value seed) refl
+free_next names before (Upload report) h f = no_new_name names before h (Upload report) refl
+free_next names before (Collect name start) h f = no_new_name names before h (Collect name start) refl
+free_next names before (Restart node) h f = no_new_name names before h (Restart node) refl
 
 -- a line among others
-pub follows_others : (before : List Line) (line : Line) (after : List Line) → AreDistinct (task_names (before ++ line ∷ after)) → follows before line ≡ true
-follows_others before (Task name kind min precision) after h =
-    let names : AreDistinct (task_names before ++ name ∷ task_names after) = subst AreDistinct (task_names-append before (Task name kind min precision ∷ after)) h in
-    ap not (any_names name before ∙ none_before (task_names before) name (task_names after) names)
-follows_others before Blank after h = refl
-follows_others before (Now t) after h = refl
-follows_others before (Measure name id time value seed) after h = refl
-follows_others before (Upload report) after h = refl
-follows_others before (Collect name start) after h = refl
-follows_others before (Restart node) after h = refl
+pub follows_others : (names : List (List ℕ)) (before : List Line) (line : Line) (after : List Line) → AreFree names (before ++ line ∷ after) → follows names before line ≡ true
+follows_others names before (Task name kind min precision) after h =
+    let all : task_names (before ++ Task name kind min precision ∷ after) ≡ task_names before ++ name ∷ task_names after =
+    task_names-append before (Task name kind min precision ∷ after) in
+    let Other : List ℕ → Type 0 = λ x. is_among names x ≡ false in
+    let new : Other name =
+    All-head Other name (task_names after) (All-right Other (task_names before) (name ∷ task_names after) (subst (All Other) all h.others)) in
+    ap not (or_from _ _ new (any_names name before ∙ none_before (task_names before) name (task_names after) (subst AreDistinct all h.distinct)))
+follows_others names before Blank after h = refl
+follows_others names before (Now t) after h = refl
+follows_others names before (Measure name id time value seed) after h = refl
+follows_others names before (Upload report) after h = refl
+follows_others names before (Collect name start) after h = refl
+follows_others names before (Restart node) after h = refl
 
-pub distinct_before : (before after : List Line) → AreDistinct (task_names (before ++ after)) → AreDistinct (task_names before)
-distinct_before before after h = distinct-front (task_names before) (task_names after) (subst AreDistinct (task_names-append before after) h)
+pub free_before : (names : List (List ℕ)) (before after : List Line) → AreFree names (before ++ after) → AreFree names before
+free_before names before after h = record {
+  distinct = distinct-front (task_names before) (task_names after) (subst AreDistinct (task_names-append before after) h.distinct);
+  others = All-left (λ name. is_among names name ≡ false) (task_names before) (task_names after)
+      (subst (All (λ name. is_among names name ≡ false)) (task_names-append before after) h.others);
+}

@@ -70,10 +70,10 @@ strip_spelled text line s = elim (strip_cases text) [
 
 -- ---- pieces
 
-one_line : (text : List ℕ) → 0 < length text → lines_of_parts (text ∷ []) ≡ text ∷ []
+pub one_line : (text : List ℕ) → 0 < length text → lines_of_parts (text ∷ []) ≡ text ∷ []
 one_line text some = ap (λ (b : Bool). if b then [] else text ∷ []) (ne_eqb (length text) 0 (λ e. omega arith))
 
-more_lines : (piece : List ℕ) (pieces : List (List ℕ)) → 0 < length pieces → lines_of_parts (piece ∷ pieces) ≡ strip_carriage_return piece ∷ lines_of_parts pieces
+pub more_lines : (piece : List ℕ) (pieces : List (List ℕ)) → 0 < length pieces → lines_of_parts (piece ∷ pieces) ≡ strip_carriage_return piece ∷ lines_of_parts pieces
 more_lines piece [] some = absurd (omega arith)
 more_lines piece (next ∷ pieces) some = refl
 

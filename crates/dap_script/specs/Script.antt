@@ -1,5 +1,5 @@
 -- A script: its lines, no two of which name the same task.
-use Rattle.std.specs.Prelude.{ℕ, ◌+◌, List, [], ◌∷◌, ◌++◌, length, Bool, true, false, not, if◌then◌else◌, Option, Some, None, Result, Ok, Err}
+use Rattle.std.specs.Prelude.{ℕ, ◌+◌, List, [], ◌∷◌, ◌++◌, length, Bool, true, false, ◌||◌, not, nat_lt, if◌then◌else◌, Option, Some, None, Result, Ok, Err}
 use Rattle.std.specs.List.{list_any}
 use Rattle.std.specs.Option.{option_map_or}
 use Rattle.std.specs.Str.{bytes_eq}
@@ -37,25 +37,39 @@ names_task wanted (Upload report) = false
 names_task wanted (Collect name start) = false
 names_task wanted (Restart node) = false
 
--- The line may follow these lines: where it is a task line, none of them is one of its name.
-abbrev pub follows : List Line → Line → Bool
-follows before Blank = true
-follows before (Task name kind min precision) = not (list_any (names_task name) before)
-follows before (Now t) = true
-follows before (Measure name id time value seed) = true
-follows before (Upload report) = true
-follows before (Collect name start) = true
-follows before (Restart node) = true
+-- the name is one of these
+abbrev pub is_among : List (List ℕ) → List ℕ → Bool
+is_among names wanted = list_any (λ name. bytes_eq name wanted) names
 
--- the line that a text is, if it may follow these lines
-abbrev pub line_after : List Line → List ℕ → Option Line
-line_after before text = option_map_or (λ line. if follows before line then Some line else None) (line_of text) None
+-- The line may follow these lines beside these names: where it is a task line, its name is none of the names, and none of
+-- the lines is a task line of its name.
+abbrev pub follows : List (List ℕ) → List Line → Line → Bool
+follows names before Blank = true
+follows names before (Task name kind min precision) = not (is_among names name || list_any (names_task name) before)
+follows names before (Now t) = true
+follows names before (Measure name id time value seed) = true
+follows names before (Upload report) = true
+follows names before (Collect name start) = true
+follows names before (Restart node) = true
+
+-- the line that a text is, if it may follow these lines beside these names
+abbrev pub line_after : List (List ℕ) → List Line → List ℕ → Option Line
+line_after names before text = option_map_or (λ line. if follows names before line then Some line else None) (line_of text) None
 
 -- the lines, or the number of the first text that is none or may not follow those before it
-abbrev pub read_after : List Line → List (List ℕ) → Result (List Line) ℕ
-read_after before [] = Ok before
-read_after before (text ∷ more) = option_map_or (λ line. read_after (before ++ line ∷ []) more) (line_after before text) (Err (length before + 1))
+abbrev pub read_after : List (List ℕ) → List Line → List (List ℕ) → Result (List Line) ℕ
+read_after names before [] = Ok before
+read_after names before (text ∷ more) =
+    option_map_or (λ line. read_after names (before ++ line ∷ []) more) (line_after names before text) (Err (length before + 1))
 
--- the lines of a script, or the number of the first that is refused
+-- the lines of a script beside names that its tasks may not have, or the number of the first that is refused
+abbrev pub script_beside : List (List ℕ) → List ℕ → Result (List Line) ℕ
+script_beside names bytes = read_after names [] (lines_of bytes)
+
+-- the lines of a script alone, or the number of the first that is refused
 abbrev pub script_of : List ℕ → Result (List Line) ℕ
-script_of bytes = read_after [] (lines_of bytes)
+script_of bytes = script_beside [] bytes
+
+-- the text has more lines than this
+abbrev pub is_longer : List ℕ → ℕ → Bool
+is_longer bytes most = nat_lt most (length (lines_of bytes))

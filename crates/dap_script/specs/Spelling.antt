@@ -1,5 +1,5 @@
 -- How the lines of a script are spelled.
-use Rattle.std.specs.Prelude.{◌≡◌, ◌⊎◌, ℕ, ◌≤◌, ◌<◌, ◌^◌, ◌-◌, List, [], ◌∷◌, ◌++◌, codes, length, map, take, true, All}
+use Rattle.std.specs.Prelude.{◌≡◌, ◌⊎◌, ℕ, ◌≤◌, ◌<◌, ◌^◌, ◌-◌, List, [], ◌∷◌, ◌++◌, codes, length, map, take, true, false, All}
 use Rattle.std.specs.Fmt.{decimal}
 use Rattle.std.specs.List.{IsDistinct, join_with_byte}
 use Rattle.std.specs.Str.{bytes_eq}
@@ -12,7 +12,7 @@ use Rattle.dap_bytes.specs.declared.node.Node.TheVariants.{Leader, Helper}
 use Rattle.vdaf_api.specs.Kind.{IsKind}
 use Rattle.vdaf_api.specs.declared.kind.Kind.{Kind}
 use Rattle.vdaf_api.specs.declared.kind.Kind.TheVariants.{Count, Sum, Histogram}
-use Rattle.dap_script.specs.Script.{lines_of, task_names}
+use Rattle.dap_script.specs.Script.{is_among, lines_of, task_names}
 use Rattle.dap_script.specs.Words.{is_line_char}
 use Rattle.dap_script.specs.declared.line.Line.{Line}
 use Rattle.dap_script.specs.declared.line.Line.TheVariants.{Blank, Task, Now, Measure, Upload, Collect, Restart}
@@ -112,20 +112,25 @@ pub record IsScript (lines : List Line) : Type 0 where
   pub in_range : All IsInRange lines
   pub distinct : IsDistinct bytes_eq (task_names lines)
 
--- bytes that spell the lines of a script
-pub record SpellsScript (bytes : List ℕ) (lines : List Line) : Type 0 where
-  pub spelled : SpellsLines bytes lines
+-- lines that are a script beside names: none of its tasks has one of these
+pub record IsScriptBeside (names : List (List ℕ)) (lines : List Line) : Type 0 where
   pub is_script : IsScript lines
+  pub others : All (λ name. is_among names name ≡ false) (task_names lines)
 
--- texts that are the lines of some script
-pub record IsReadable (texts : List (List ℕ)) : Type 0 where
+-- bytes that spell the lines of a script beside these names
+pub record SpellsScript (names : List (List ℕ)) (bytes : List ℕ) (lines : List Line) : Type 0 where
+  pub spelled : SpellsLines bytes lines
+  pub is_script : IsScriptBeside names lines
+
+-- texts that are the lines of some script beside these names
+pub record IsReadable (names texts : List (List ℕ)) : Type 0 where
   pub lines : List Line
   pub spelled : SpellEach texts lines
-  pub is_script : IsScript lines
+  pub is_script : IsScriptBeside names lines
 
--- Line n, counted from 1, is the first for which the lines up to and with it are not those of a script.
-pub record IsFirstFault (bytes : List ℕ) (n : ℕ) : Type 0 where
+-- Line n, counted from 1, is the first for which the lines up to and with it are not those of a script beside these names.
+pub record IsFirstFault (names : List (List ℕ)) (bytes : List ℕ) (n : ℕ) : Type 0 where
   pub some : 1 ≤ n
   pub within : n ≤ length (lines_of bytes)
-  pub before : IsReadable (take (n - 1) (lines_of bytes))
-  pub at : ¬ IsReadable (take n (lines_of bytes))
+  pub before : IsReadable names (take (n - 1) (lines_of bytes))
+  pub at : ¬ IsReadable names (take n (lines_of bytes))

@@ -5,18 +5,22 @@
 //! the laws that tie this function to the spelling.
 #![tactic(auto)]
 
+mod count;
 mod fault;
 mod fields;
 mod kind;
 mod laws;
 mod line;
+mod print;
 mod reading;
 mod script;
 
+pub use count::is_longer;
 pub use fault::ScriptFault;
 pub use laws::{lines_are_spelled, refusals_name_the_first_line, scripts_are_spelled};
 pub use line::Line;
-pub use reading::read_script;
+pub use print::print_task;
+pub use reading::{read_script, read_script_beside};
 
 #[cfg(test)]
 mod tests;

@@ -5,7 +5,7 @@ ghost use Rattle.std.specs.Char.{is_newline};
 ghost use Rattle.std.specs.List.{slice_split, list_any};
 ghost use Rattle.std.specs.Str.Lines.{strip_carriage_return};
 ghost use Rattle.dap_script.specs.Words.{texts};
-ghost use Rattle.dap_script.specs.Script.{lines_of, names_task, follows, line_after};
+ghost use Rattle.dap_script.specs.Script.{lines_of, names_task, is_among, follows, line_after};
 
 use crate::line::Line;
 use dap_bytes::Name;
@@ -64,15 +64,21 @@ impl Line {
         }
     }
 
-    /// Whether this line may follow those before it.
-    fn follows(&self, before: &[Line]) -> bool
-        ensures { result ≡ follows before.now self.now }
+    /// Whether this line may follow those before it, beside these names.
+    fn follows(&self, names: &[Name], before: &[Line]) -> bool
+        ensures { result ≡ follows names.now before.now self.now }
     {
         match self {
-            Line::Task { name, .. } => !any_names_task(before, name),
+            Line::Task { name, .. } => !is_among(names, name) && !any_names_task(before, name),
             _ => true,
         }
     }
+}
+
+fn is_among(names: &[Name], wanted: &Name) -> bool
+    ensures { result ≡ is_among names.now wanted.now }
+{
+    names.iter().any(|name| name == wanted)
 }
 
 fn any_names_task(lines: &[Line], name: &Name) -> bool
@@ -81,10 +87,15 @@ fn any_names_task(lines: &[Line], name: &Name) -> bool
     lines.iter().any(|line| line.names_task(name))
 }
 
-/// The line that a text is, if it may follow those before it.
-pub fn line_after(alloc: Global, before: &[Line], text: &[u8]) -> Result<Option<Line>, AllocError>
-    ensures { IfOk result (λ line. line ≡ line_after before.now text.now) }
+/// The line that a text is, if it may follow those before it, beside these names.
+pub fn line_after(
+    alloc: Global,
+    names: &[Name],
+    before: &[Line],
+    text: &[u8],
+) -> Result<Option<Line>, AllocError>
+    ensures { IfOk result (λ line. line ≡ line_after names.now before.now text.now) }
 {
     let line = Line::parse(alloc, text)?;
-    Ok(line.filter(|line| line.follows(before)))
+    Ok(line.filter(|line| line.follows(names, before)))
 }

@@ -138,3 +138,61 @@ fn the_first_line_that_does_not_fit_is_refused(rt: HostRuntime) {
         }
     }
 }
+
+#[test]
+fn a_task_has_none_of_the_names_that_are_given(rt: HostRuntime) -> Result<(), Fail> {
+    let alloc = rt.alloc();
+    let names = [name(b"v")?, name(b"w")?];
+    let text = b"task x count 1 1\ncollect w 0\ntask w count 1 1\n";
+    assert!(rt; read_script_beside(alloc, &names[..1], text).is_ok());
+    assert_eq!(rt;
+        read_script_beside(alloc, &names, text).err(),
+        Some(ScriptFault::Refused { line: 3 })
+    );
+    Ok(())
+}
+
+#[test]
+fn lines_are_counted_by_their_ends(rt: HostRuntime) {
+    let cases: [(&[u8], u32); 6] = [
+        (b"", 0),
+        (b"a", 1),
+        (b"a\n", 1),
+        (b"\n", 1),
+        (b"a\n\r", 2),
+        (b"\n\n\nb", 4),
+    ];
+    for (text, lines) in cases {
+        assert!(rt; !is_longer(text, lines));
+        assert_eq!(rt; lines > 0 && is_longer(text, lines - 1), lines > 0);
+    }
+}
+
+#[test]
+fn a_task_is_printed_as_its_line(rt: HostRuntime) -> Result<(), Fail> {
+    let alloc = rt.alloc();
+    let mut out = Vec::from_slice(alloc, b"# tasks\n")?;
+    let bounds = Bounds::new(Vec::from_slice(alloc, &[0, 10, u64::MAX])?);
+    print_task(alloc, &name(b"v")?, &Kind::Count, 3, 3600, &mut out)?;
+    print_task(
+        alloc,
+        &name(b"s-1")?,
+        &Kind::Sum { bits: 64 },
+        1,
+        1,
+        &mut out,
+    )?;
+    print_task(
+        alloc,
+        &name(b"h")?,
+        &Kind::Histogram { bounds },
+        7,
+        20,
+        &mut out,
+    )?;
+    assert_eq!(rt;
+        out.as_slice(),
+        b"# tasks\ntask v count 3 3600\ntask s-1 sum 64 1 1\ntask h histogram 0,10,18446744073709551615 7 20\n".as_slice()
+    );
+    Ok(())
+}
