@@ -1,11 +1,9 @@
 -- What the direct path keeps, as lists of the plain state.
-use Rattle.std.proofs.Common.{◌≡◌, List, [], ◌∷◌, ◌++◌, map, Bool, ◌||◌, Option, Some, None, is_some, Result, Ok, Err, IfOk, length, suc, refl, ap}
+use Rattle.std.proofs.Common.{◌≡◌, List, [], ◌∷◌, ◌++◌, map, Bool, ◌||◌, Option, Some, None, is_some, Result, Ok, Err, IfOk, refl, ap}
 use Rattle.std.specs.List.{list_any}
 use Rattle.std.specs.Option.{option_map}
 use Rattle.dap_direct.specs.Direct.{plain_batch, plain_batches}
-use Rattle.dap_direct.specs.Report.{plain_report, plain_reports}
-use Rattle.dap_direct.specs.declared.direct.Batch.{Batch}
-use Rattle.dap_direct.specs.declared.report.Report.{Report}
+use Rattle.dap_direct.specs.declared.state.Batch.{Batch}
 
 -- a test of what the elements are seen as
 pub list_any-map : {X Y : Type 0} (p : Y → Bool) (f : X → Y) (xs : List X) → list_any p (map f xs) ≡ list_any (λ x. p (f x)) xs
@@ -16,20 +14,12 @@ pub is_some-map : {X Y : Type 0} (f : X → Y) (o : Option X) → is_some (optio
 is_some-map f (Some x) = refl
 is_some-map f None = refl
 
-pub plain_reports-push : (rs : List Report) (r : Report) → plain_reports (rs ++ r ∷ []) ≡ plain_reports rs ++ plain_report r ∷ []
-plain_reports-push [] r = refl
-plain_reports-push (x ∷ rs) r = ap (λ l. plain_report x ∷ l) (plain_reports-push rs r)
-
 pub plain_batches-push : (bs : List Batch) (b : Batch) → plain_batches (bs ++ b ∷ []) ≡ plain_batches bs ++ plain_batch b ∷ []
 plain_batches-push [] b = refl
 plain_batches-push (x ∷ bs) b = ap (λ l. plain_batch x ∷ l) (plain_batches-push bs b)
-
-pub length-plain_reports : (rs : List Report) → length (plain_reports rs) ≡ length rs
-length-plain_reports [] = refl
-length-plain_reports (r ∷ rs) = ap suc (length-plain_reports rs)
 
 pub IfOk-map : {T E : Type 0} (r : Result T E) (P Q : T → Type 0) → IfOk r P → ((v : T) → P v → Q v) → IfOk r Q
 IfOk-map (Ok v) P Q h m = m v h
 IfOk-map (Err e) P Q h m = tt
 
-pub ruleset seen_as = (list_any-map, is_some-map, plain_reports-push, plain_batches-push)
+pub ruleset seen_as = (list_any-map, is_some-map, plain_batches-push)

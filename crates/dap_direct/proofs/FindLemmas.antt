@@ -1,5 +1,5 @@
 -- Elements that are found, replaced and added.
-use Rattle.std.proofs.Common.{◌≡◌, ℕ, zero, suc, ◌+◌, ◌<◌, List, [], ◌∷◌, ◌++◌, length, get_or, set, Bool, cond, true, false, not, Option, Some, None, refl, sym, ap, ◌∙◌, arith, add-one}
+use Rattle.std.proofs.Common.{◌≡◌, ℕ, zero, suc, ◌+◌, ◌<◌, List, [], ◌∷◌, length, get_or, set, Bool, cond, true, false, not, Some, refl, sym, ap, ◌∙◌, arith}
 use Rattle.std.specs.List.{find, position_or_len}
 
 pub find-set_other : {X : Type 0} (p : X → Bool) (xs : List X) (i : ℕ) (y d : X) → p (get_or xs i d) ≡ false → p y ≡ false → find p (set xs i y) ≡ find p xs

@@ -6,3 +6,6 @@ pub mod KeepLemmas
 pub mod DirectLemmas
 pub mod TaskLemmas
 pub mod SummedLemmas
+pub mod HonestLemmas
+pub mod StepLemmas
+pub mod RunLemmas

@@ -1,5 +1,5 @@
 -- The sums of a batch, one report after another.
-use Rattle.std.proofs.Common.{◌≡◌, ◌⊎◌, ℕ, ◌+◌, ◌<◌, ◌≤◌, List, [], ◌∷◌, ◌++◌, length, replicate, Bool, cond, true, false, not, ◌&&◌, eqb, nat_eq, Option, Some, None, refl, sym, ap, subst, ◌∙◌, inl, inr, arith, append-nil, length-append, vec_len, is_none}
+use Rattle.std.proofs.Common.{◌≡◌, ℕ, ◌+◌, ◌≤◌, List, [], ◌∷◌, ◌++◌, length, replicate, cond, true, not, ◌&&◌, eqb, nat_eq, Option, Some, None, refl, sym, ap, subst, ◌∙◌, inl, inr, arith, append-nil, length-append, is_none}
 use Rattle.std.proofs.lemmas.Bool.Decides.{nat_tests}
 use Rattle.std.proofs.lemmas.List.Folds.{position_or_len_push}
 use Rattle.std.proofs.lemmas.List.Sums.{prefix_len-le-length}
@@ -10,12 +10,12 @@ use Rattle.std.specs.Str.{bytes_eq}
 use Rattle.field_laws.specs.Vector.{add_each, sum_of}
 use Rattle.vdaf_api.proofs.Totals.{plus-swap, totals_are}
 use Rattle.vdaf_api.specs.Functions.{Functions}
-use Rattle.vdaf_api.specs.Spelled.{Spells, vector_of-back}
+use Rattle.vdaf_api.specs.Spelled.{vector_of-back}
 use Rattle.vdaf_api.specs.Sums.{add_each-assoc, add_each-comm, length-zeros, vector-plus, vector-zero}
 use Rattle.vdaf_api.specs.Totals.{total_numbers}
 use Rattle.vdaf_api.specs.Vectors.{IsOut, SpaceLaws, numbers, numbers_in, plus, vector, zero_share}
 use Rattle.vdaf_api.specs.declared.space.Space.{Space}
-use Rattle.dap_direct.specs.Sums.{AddsNone, AddsOuts, AreOutShares, AreSums, Counts, IsReady, content_with, is_of}
+use Rattle.dap_direct.specs.Sums.{AreOutShares, AreSums, Counts, IsReady, content_with, is_of}
 use Rattle.dap_direct.specs.declared.prepared.OutShares.{OutShares}
 use Rattle.dap_direct.specs.declared.sums.Sums.{Sums}
 

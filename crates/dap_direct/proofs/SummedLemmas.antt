@@ -1,5 +1,5 @@
 -- The sums of the known tasks.
-use Rattle.std.proofs.Common.{◌≡◌, ℕ, List, [], ◌∷◌, Bool, cond, true, false, Option, Some, None, Vec, refl, sym, ap, subst, ◌∙◌}
+use Rattle.std.proofs.Common.{◌≡◌, ℕ, List, [], ◌∷◌, Bool, cond, true, false, Some, Vec, refl, sym, ap, subst, ◌∙◌}
 use Rattle.std.proofs.lemmas.Slice.Eq.{bytes_eq-Decides}
 use Rattle.std.specs.List.{find}
 use Rattle.std.specs.declared.alloc.Global.{Global}
@@ -8,10 +8,9 @@ use Rattle.vdaf_api.specs.Functions.{Functions}
 use Rattle.vdaf_api.specs.declared.kind.Kind.{Kind}
 use Rattle.dap_tasks.specs.Task.{PlainTask, has_name}
 use Rattle.dap_direct.specs.Direct.{AreSummed, HasSums, KeepsSums}
-use Rattle.dap_direct.specs.Report.{plain_reports}
 use Rattle.dap_direct.specs.Sums.{IsSummed}
-use Rattle.dap_direct.specs.declared.direct.Direct.{Direct}
-use Rattle.dap_direct.specs.declared.report.Report.{Report}
+use Rattle.dap_direct.specs.declared.state.Direct.{Direct}
+use Rattle.dap_messages.specs.declared.report.Report.{Report}
 use Rattle.dap_direct.specs.declared.sums.Sums.{Sums}
 
 -- a task that is found by a name has it
@@ -40,7 +39,7 @@ keeps_all f tasks task old new known summed keeps = λ t is. go t is (bytes_eq t
     go t is false e = keeps.others t e (summed t is)
 
 -- the reports and the sums alone matter
-pub same_sums : (f : Kind → Functions) (tasks : List PlainTask) (old new : Direct) → new.reports ≡ old.reports → new.sums ≡ old.sums → AreSummed f tasks old → AreSummed f tasks new
-same_sums f tasks old new reports sums summed = λ t known.
-    subst (λ (l : Vec Sums Global). IsSummed f t (plain_reports new.reports.items) l.items) (sym sums)
-    (subst (λ (l : Vec Report Global). IsSummed f t (plain_reports l.items) old.sums.items) (sym reports) (summed t known))
+pub same_sums : (f : Kind → Functions) (tasks : List PlainTask) (old new : Direct) → new.accepted ≡ old.accepted → new.sums ≡ old.sums → AreSummed f tasks old → AreSummed f tasks new
+same_sums f tasks old new accepted sums summed = λ t known.
+    subst (λ (l : Vec Sums Global). IsSummed f t new.accepted l.items) (sym sums)
+    (subst (λ (l : List Report). IsSummed f t l old.sums.items) (sym accepted) (summed t known))

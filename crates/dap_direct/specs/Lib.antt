@@ -1,4 +1,8 @@
+pub mod Alike
+pub mod Answered
 pub mod Direct
+pub mod Honest
+pub mod Offered
 pub mod Prepared
-pub mod Report
 pub mod Sums
+pub mod Told

@@ -8,7 +8,8 @@ use Rattle.vdaf_api.specs.Vectors.{IsOut, numbers, plus}
 use Rattle.vdaf_api.specs.declared.answer.Answer.{Answer}
 use Rattle.vdaf_api.specs.declared.kind.Kind.{Kind}
 use Rattle.dap_tasks.specs.Task.{PlainTask}
-use Rattle.dap_model.specs.State.{Accepted, contents_in, rejected_in}
+use Rattle.dap_messages.specs.declared.report.Report.{Report}
+use Rattle.dap_model.specs.State.{contents_in, rejected_in}
 use Rattle.dap_direct.specs.declared.prepared.OutShares.{OutShares}
 use Rattle.dap_direct.specs.declared.sums.Sums.{Sums}
 
@@ -30,7 +31,7 @@ AreSumsOf g contents rejected None = (contents ≡ []) × (rejected ≡ 0)
 AreSumsOf g contents rejected (Some s) = AreSums g contents rejected s
 
 -- each batch of the task has its sums
-abbrev pub IsSummed : (Kind → Functions) → PlainTask → List Accepted → List Sums → Type 0
+abbrev pub IsSummed : (Kind → Functions) → PlainTask → List Report → List Sums → Type 0
 IsSummed f task accepted sums =
     (start : ℕ) → AreSumsOf (f task.kind) (contents_in f task start accepted) (rejected_in f task start accepted) (find (is_of task.name start) sums)
 

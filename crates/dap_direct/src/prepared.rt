@@ -1,12 +1,16 @@
-//! Both halves of a report, prepared together.
+//! Both halves of a report, opened and prepared together.
 
-ghost use Rattle.std.specs.Prelude.{◌≡◌};
-ghost use Rattle.vdaf_api.specs.Answered.{parts_of};
-ghost use Rattle.vdaf_api.specs.Verdict.{opened, verdict};
+ghost use Rattle.std.specs.Prelude.{◌≡◌, IfOk};
+ghost use Rattle.vdaf_api.specs.Answered.{Prepares as Gives};
+ghost use Rattle.dap_seal.specs.Reports.{content_numbers_of, head_of, verdict_of};
+ghost use Rattle.dap_seal.specs.Sealed.{opened_by};
+ghost use Rattle.dap_direct.specs.Sums.{AreOutShares, content_with};
 
-use dap_bytes::Id;
-use std::alloc::Global;
-use vdaf_api::{PrepFault, Role, Shares, Vdaf};
+use dap_messages::Report;
+use dap_seal::{CmacSeal, Head, OpenFault, Seal};
+use dap_tasks::{SealKeys, Task};
+use std::alloc::{AllocError, Global};
+use vdaf_api::{PrepFault, Role, Vdaf};
 
 /// The out shares of a report whose verdict is ok.
 #[derive(Debug, Drop)]
@@ -15,40 +19,90 @@ pub struct OutShares {
     pub helper: Vec<u8>,
 }
 
+/// What a report's sealed shares are bound to.
+fn head_of(report: &Report) -> Result<Head, AllocError>
+    ensures { IfOk result (λ head. head ≡ head_of report.now) }
+{
+    Ok(Head {
+        name: report.name,
+        id: report.id,
+        time: report.time,
+        public: report.public.clone()?,
+    })
+}
+
+/// The share that sealed bytes hold for an aggregator. `Invalid` exactly where they don't open.
+fn open(
+    alloc: Global,
+    keys: &SealKeys,
+    role: Role,
+    head: &Head,
+    sealed: &[u8],
+) -> Result<Vec<u8>, PrepFault>
+    ensures { Gives result (opened_by keys.now role head.now sealed.now) }
+{
+    match CmacSeal::new(keys, role).open(alloc, head, sealed) {
+        Ok(plain) => Ok(plain),
+        Err(OpenFault::Tag) => Err(PrepFault::Invalid),
+        Err(OpenFault::NoMemory) => Err(PrepFault::NoMemory),
+    }
+}
+
 impl OutShares {
     ghost use Rattle.dap_direct.specs.Prepared.{Prepares};
 
-    /// Prepares both halves under the verify key. `Invalid` exactly where the verdict is failed.
-    pub fn of<V: Vdaf>(
+    /// Opens and prepares both halves of a report under a task. `Invalid` exactly where the verdict is failed.
+    fn of<V: Vdaf>(
         alloc: Global,
         vdaf: &V,
-        verify: &[u8; 16],
-        id: &Id,
-        shares: &Shares,
+        task: &Task,
+        report: &Report,
     ) -> Result<OutShares, PrepFault>
-        ensures { Prepares result (verdict (V.functions vdaf.now) (opened verify.now id.now (parts_of shares.now))) }
+        ensures { Prepares (V.functions vdaf.now) result (verdict_of (V.functions vdaf.now) task.now report.now) }
     {
-        let public = shares.public.as_slice();
-        let (helper, theirs) = vdaf.init(
+        let Ok(head) = head_of(report) else {
+            return Err(PrepFault::NoMemory);
+        };
+        let verify = &task.verify;
+        let id = &report.id;
+        let public = report.public.as_slice();
+        let input = open(
             alloc,
+            &task.helper,
             Role::Helper,
-            verify,
-            id,
-            public,
-            shares.helper.as_slice(),
+            &head,
+            report.helper.as_slice(),
         )?;
-        let (leader, ours) = vdaf.init(
+        let (helper, theirs) = vdaf.init(alloc, Role::Helper, verify, id, public, &input)?;
+        let input = open(
             alloc,
+            &task.leader,
             Role::Leader,
-            verify,
-            id,
-            public,
-            shares.leader.as_slice(),
+            &head,
+            report.leader.as_slice(),
         )?;
+        let (leader, ours) = vdaf.init(alloc, Role::Leader, verify, id, public, &input)?;
         let message = vdaf.combine(alloc, &ours, &theirs)?;
         Ok(OutShares {
             leader: vdaf.finish(alloc, &leader, &message)?,
             helper: vdaf.finish(alloc, &helper, &message)?,
         })
+    }
+}
+
+/// The out shares of a report under a task, or none where its verdict is failed.
+pub fn prepare<V: Vdaf>(
+    alloc: Global,
+    vdaf: &V,
+    task: &Task,
+    report: &Report,
+) -> Result<Option<OutShares>, AllocError>
+    ensures content { IfOk result (λ outs. content_with (V.functions vdaf.now) outs ≡ content_numbers_of (V.functions vdaf.now) task.now report.now) }
+    ensures outs { IfOk result (AreOutShares (V.functions vdaf.now)) }
+{
+    match OutShares::of(alloc, vdaf, task, report) {
+        Ok(outs) => Ok(Some(outs)),
+        Err(PrepFault::Invalid) => Ok(None),
+        Err(PrepFault::NoMemory) => Err(AllocError),
     }
 }

@@ -1,10 +1,14 @@
 -- A line changes nothing but what it names.
-use Rattle.std.proofs.Common.{◌≡◌, ◌⊎◌, ℕ, ◌%◌, not, List, [], ◌∷◌, ◌++◌, Bool, cond, true, false, nat_eq, Option, Some, None, refl, subst, inl, inr}
+use Rattle.std.proofs.Common.{◌∙◌, sym, ap, ◌≡◌, ◌⊎◌, ℕ, ◌%◌, not, List, [], ◌∷◌, ◌++◌, Bool, cond, true, false, nat_eq, Option, Some, None, refl, subst, inl, inr}
 use Rattle.std.proofs.lemmas.Bool.{cond_both}
 use Rattle.std.proofs.lemmas.Slice.Eq.{bytes_eq-Decides}
 use Rattle.std.specs.List.{find}
-use Rattle.std.specs.Option.{option_map_or}
+use Rattle.std.specs.Option.{option_map, option_map_or}
 use Rattle.vdaf_api.specs.Functions.{Functions, Parts}
+use Rattle.dap_messages.specs.declared.report.Report.{Report}
+use Rattle.dap_messages.specs.Messages.{report}
+use Rattle.dap_seal.specs.Reports.{report_of}
+use Rattle.dap_batch.specs.Group.{batch_start}
 use Rattle.vdaf_api.specs.declared.kind.Kind.{Kind}
 use Rattle.dap_tasks.specs.Judged.{judged}
 use Rattle.dap_tasks.specs.Task.{PlainTask, has_name}
@@ -13,9 +17,9 @@ use Rattle.dap_tasks.specs.declared.cause.Judged.{Judged}
 use Rattle.dap_tasks.specs.declared.cause.Judged.TheVariants.{Again, Barred, Added}
 use Rattle.dap_script.specs.declared.line.Line.{Line}
 use Rattle.dap_script.specs.declared.line.Line.TheVariants as line
-use Rattle.dap_model.specs.Changes.{AddsBatch, AddsReport, ChangesNamed}
-use Rattle.dap_model.specs.State.{Accepted, State, batch_of, is_collected, known_in, report_of}
-use Rattle.dap_model.specs.Step.{Outcome, after_judgement, collect_of, is_due, measure_of, offered, refused, step}
+use Rattle.dap_model.specs.Changes.{AddsBatch, AddsReport, AddsUpload, ChangesNamed}
+use Rattle.dap_model.specs.State.{State, is_collected, known_in}
+use Rattle.dap_model.specs.Step.{Outcome, after_judgement, collect_of, is_due, measure_of, offered, refused, name_in, report_in, step, upload_named, upload_to}
 use Rattle.dap_model.specs.declared.printed.Printed.{Printed}
 
 -- What holds where no task is found, and at each task of the name, holds at the task that is found.
@@ -26,23 +30,57 @@ by_task P g none name (first ∷ more) missing each =
     cond_both (has_name name first) (Some first) (find (has_name name) more) (λ found. P (option_map_or g found none))
     (λ e. each first ((bytes_eq-Decides first.name name).0 e)) (λ e. by_task P g none name more missing each)
 
+-- a task that is found by a name has it
+pub found_name : (name : List ℕ) (tasks : List PlainTask) (t : PlainTask) → find (has_name name) tasks ≡ Some t → t.name ≡ name
+found_name name [] t e = cc e
+found_name name (first ∷ more) t e = go (has_name name first) refl e (λ h. found_name name more t h)
+  where
+    go : (b : Bool) → has_name name first ≡ b → cond b (Some first) (find (has_name name) more) ≡ Some t → (find (has_name name) more ≡ Some t → t.name ≡ name) → t.name ≡ name
+    go true own e rest = let same : first ≡ t = cc in ap (λ (t : PlainTask). t.name) (sym same) ∙ (bytes_eq-Decides first.name name).0 own
+    go false own e rest = rest e
+
 -- ---- a measurement
 
 abbrev MayAdd : State → List ℕ → List ℕ → ℕ → Outcome → Type 0
 MayAdd s name id time after = (after.0 ≡ s) ⊎ AddsReport s after.0 name id time
 
-judgement_may_add : (s : State) (k : ℕ) (new : Accepted) (judgement : Judged) → MayAdd s new.task new.id new.time (after_judgement s k new judgement)
+judgement_may_add : (s : State) (k : ℕ) (new : Report) (judgement : Judged) → MayAdd s new.name new.id new.time (after_judgement s k new judgement)
 judgement_may_add s k new Again = inl refl
 judgement_may_add s k new (Barred why) = inl refl
 judgement_may_add s k new Added = inr (record { report = new; of_task = refl; of_id = refl; at_time = refl; grown = refl })
 
+-- the judgement of a report that is offered to a task
+abbrev pub judgement_of : State → PlainTask → Report → Judged
+judgement_of s task new =
+    judged (known_in s.accepted new.name new.id) s.moment (is_collected s.collected new.name (batch_start new.time task.precision)) (report.spell new) new.time
+
 shares_may_add : (s : State) (k : ℕ) (id : List ℕ) (time : ℕ) (task : PlainTask) (shares : Option Parts)
-    → MayAdd s task.name id time (option_map_or (λ p. offered s k task (record { task = task.name; id = id; time = time; shares = p })) shares (refused s k cause.Value))
+    → MayAdd s task.name id time (option_map_or (offered s k task) (option_map (report_of task id time) shares) (refused s k cause.Value))
 shares_may_add s k id time task None = inl refl
 shares_may_add s k id time task (Some p) =
-    let new : Accepted = record { task = task.name; id = id; time = time; shares = p } in
-    judgement_may_add s k new
-    (judged (known_in s.accepted new.task new.id) s.moment (is_collected s.collected new.task (batch_of new.time task.precision)) (report_of new) new.time)
+    let new : Report = report_of task id time p in
+    judgement_may_add s k new (judgement_of s task new)
+
+-- ---- an upload
+
+abbrev MayAddUpload : State → List ℕ → Outcome → Type 0
+MayAddUpload s bytes after = (after.0 ≡ s) ⊎ AddsUpload s after.0 bytes
+
+judgement_may_add_upload : (s : State) (k : ℕ) (bytes : List ℕ) (new : Report) → report_in bytes ≡ Some new → (judgement : Judged) → MayAddUpload s bytes (after_judgement s k new judgement)
+judgement_may_add_upload s k bytes new e Again = inl refl
+judgement_may_add_upload s k bytes new e (Barred why) = inl refl
+judgement_may_add_upload s k bytes new e Added = inr (record { report = new; spelled = e; grown = refl })
+
+read_may_add : (s : State) (k : ℕ) (bytes : List ℕ) (task : PlainTask) (o : Option Report) → report_in bytes ≡ o
+    → MayAddUpload s bytes (option_map_or (offered s k task) o (refused s k cause.Form))
+read_may_add s k bytes task None e = inl refl
+read_may_add s k bytes task (Some new) e = judgement_may_add_upload s k bytes new e (judgement_of s task new)
+
+named_may_add : (s : State) (k : ℕ) (bytes : List ℕ) (o : Option (List ℕ)) → MayAddUpload s bytes (option_map_or (upload_named s k bytes) o (refused s k cause.Form))
+named_may_add s k bytes None = inl refl
+named_may_add s k bytes (Some name) =
+    by_task (MayAddUpload s bytes) (upload_to s k bytes) (refused s k cause.Task) name s.tasks (inl refl)
+    (λ task e. read_may_add s k bytes task (report_in bytes) refl)
 
 -- ---- a collection
 
@@ -67,7 +105,7 @@ changes_named f s k (line.Measure name id time value seed) =
     let offers = measure_of f s k id time value seed in
     by_task (MayAdd s name id time) offers (refused s k cause.Task) name s.tasks (inl refl)
     (λ task e. subst (λ (n : List ℕ). MayAdd s n id time (offers task)) e (shares_may_add s k id time task ((f task.kind).shard id value seed)))
-changes_named f s k (line.Upload report) = refl
+changes_named f s k (line.Upload bytes) = named_may_add s k bytes (name_in bytes)
 changes_named f s k (line.Collect name start) =
     by_task (MayCollect s name start) (collect_of f s k start) (refused s k cause.Task) name s.tasks (inl refl)
     (λ task e. subst (λ (n : List ℕ). MayCollect s n start (collect_of f s k start task)) e

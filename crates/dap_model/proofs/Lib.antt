@@ -1,3 +1,12 @@
 pub mod ChangeLaws
 pub mod CountLaws
+pub mod Fronts
+pub mod MomentLaws
+pub mod NameLemmas
+pub mod OfferLaws
 pub mod OnceLaws
+pub mod PassLaws
+pub mod RepeatLaws
+pub mod TakenLaws
+pub mod UploadLaws
+pub mod UploadedLaws

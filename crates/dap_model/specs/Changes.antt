@@ -1,17 +1,24 @@
 -- What a line may change.
-use Rattle.std.specs.Prelude.{◌≡◌, ◌⊎◌, ℕ, List, [], ◌∷◌, ◌++◌, false}
+use Rattle.std.specs.Prelude.{◌≡◌, ◌⊎◌, ℕ, List, [], ◌∷◌, ◌++◌, Some, false}
 use Rattle.std.specs.List.{list_any}
+use Rattle.dap_messages.specs.declared.report.Report.{Report}
 use Rattle.dap_script.specs.declared.line.Line.{Line}
 use Rattle.dap_script.specs.declared.line.Line.TheVariants as line
-use Rattle.dap_model.specs.State.{Accepted, State, has_key}
-use Rattle.dap_model.specs.Step.{raised}
+use Rattle.dap_model.specs.State.{State, has_key}
+use Rattle.dap_model.specs.Step.{raised, report_in}
 
 -- One report of this task, identifier and time is accepted after the others, and nothing else changes.
 pub record AddsReport (old new : State) (task id : List ℕ) (time : ℕ) : Type 0 where
-  pub report : Accepted
-  pub of_task : report.task ≡ task
+  pub report : Report
+  pub of_task : report.name ≡ task
   pub of_id : report.id ≡ id
   pub at_time : report.time ≡ time
+  pub grown : new ≡ record old { accepted = old.accepted ++ report ∷ [] }
+
+-- The report that these bytes spell is accepted after the others, and nothing else changes.
+pub record AddsUpload (old new : State) (bytes : List ℕ) : Type 0 where
+  pub report : Report
+  pub spelled : report_in bytes ≡ Some report
   pub grown : new ≡ record old { accepted = old.accepted ++ report ∷ [] }
 
 -- This batch is collected after the others, and nothing else changes.
@@ -24,11 +31,11 @@ ChangesNamed old new line.Blank = new ≡ old
 ChangesNamed old new (line.Task name kind min precision) = new ≡ old
 ChangesNamed old new (line.Now t) = new ≡ record old { moment = raised old.moment t }
 ChangesNamed old new (line.Measure name id time value seed) = (new ≡ old) ⊎ AddsReport old new name id time
-ChangesNamed old new (line.Upload report) = new ≡ old
+ChangesNamed old new (line.Upload bytes) = (new ≡ old) ⊎ AddsUpload old new bytes
 ChangesNamed old new (line.Collect name start) = (new ≡ old) ⊎ AddsBatch old new name start
 ChangesNamed old new (line.Restart node) = new ≡ old
 
 -- No two of the reports have the same task and identifier.
-abbrev pub AreDistinct : List Accepted → Type 0
+abbrev pub AreDistinct : List Report → Type 0
 AreDistinct [] = Unit {0}
-AreDistinct (a ∷ more) = (list_any (has_key a.task a.id) more ≡ false) × AreDistinct more
+AreDistinct (r ∷ more) = (list_any (has_key r.name r.id) more ≡ false) × AreDistinct more

@@ -7,16 +7,17 @@ use Rattle.vdaf_api.specs.Functions.{Functions, Parts}
 use Rattle.vdaf_api.specs.Kind.{IsKind}
 use Rattle.vdaf_api.specs.Totals.{total_numbers}
 use Rattle.vdaf_api.specs.declared.kind.Kind.{Kind}
+use Rattle.dap_batch.specs.Group.{batch_start}
 use Rattle.dap_tasks.specs.Task.{PlainTask, has_name}
 use Rattle.dap_script.specs.declared.line.Line.{Line}
 use Rattle.dap_script.specs.declared.line.Line.TheVariants as line
-use Rattle.dap_model.specs.State.{batch_of}
+use Rattle.dap_model.specs.Moments.{IsTimely, times_of}
 use Rattle.dap_model.specs.declared.printed.Printed.{Printed}
 use Rattle.dap_model.specs.declared.printed.Printed.TheVariants.{Collected, Small}
 
 -- a measurement of the task whose time falls in its batch that starts there
 abbrev pub falls_in : PlainTask → ℕ → Line → Bool
-falls_in task start (line.Measure name id time value seed) = bytes_eq name task.name && nat_eq (batch_of time task.precision) start
+falls_in task start (line.Measure name id time value seed) = bytes_eq name task.name && nat_eq (batch_start time task.precision) start
 falls_in task start line.Blank = false
 falls_in task start (line.Task name kind min precision) = false
 falls_in task start (line.Now t) = false
@@ -69,8 +70,8 @@ abbrev pub vectors_in : Functions → PlainTask → ℕ → List Line → List (
 vectors_in g task start [] = []
 vectors_in g task start (l ∷ more) = (if falls_in task start l then option_to_list (measured g l) else []) ++ vectors_in g task start more
 
--- A measurement of a known task after these lines: its shares are fair, none of the lines measures under its identifier, and
--- none collects its batch.
+-- A measurement of a known task after these lines: its shares are fair, it isn't early, none of the lines measures under its
+-- identifier, and none collects its batch.
 pub record IsTaken (f : Kind → Functions) (tasks : List PlainTask) (done : List Line) (name id : List ℕ) (time value : ℕ) (seed : List ℕ) : Type 0 where
   pub task : PlainTask
   pub known : find (has_name name) tasks ≡ Some task
@@ -81,16 +82,17 @@ pub record IsTaken (f : Kind → Functions) (tasks : List PlainTask) (done : Lis
   pub shares : Parts
   pub shared : (f task.kind).shard id value seed ≡ Some shares
   pub fair : (f task.kind).is_fair task.verify id ≡ true
+  pub timely : IsTimely (times_of done) time
   pub new : list_any (measures name id) done ≡ false
-  pub uncollected : list_any (collects name (batch_of time task.precision)) done ≡ false
+  pub uncollected : list_any (collects name (batch_start time task.precision)) done ≡ false
 
--- a line after these that accepts what it measures, if it measures, and tells no moment
+-- a line after these that accepts what it measures, if it measures, and that uploads nothing
 abbrev pub IsTakenLine : (Kind → Functions) → List PlainTask → List Line → Line → Type 0
 IsTakenLine f tasks done (line.Measure name id time value seed) = IsTaken f tasks done name id time value seed
-IsTakenLine f tasks done (line.Now t) = ⊥
+IsTakenLine f tasks done (line.Now t) = Unit {0}
 IsTakenLine f tasks done line.Blank = Unit {0}
 IsTakenLine f tasks done (line.Task name kind min precision) = Unit {0}
-IsTakenLine f tasks done (line.Upload report) = Unit {0}
+IsTakenLine f tasks done (line.Upload report) = ⊥
 IsTakenLine f tasks done (line.Collect name from) = Unit {0}
 IsTakenLine f tasks done (line.Restart node) = Unit {0}
 

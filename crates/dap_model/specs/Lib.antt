@@ -1,6 +1,13 @@
 pub mod Changes
 pub mod Counts
+pub mod Limits
+pub mod Moments
+pub mod Offers
+pub mod Passes
 pub mod Printed
 pub mod Run
+pub mod Segments
 pub mod State
 pub mod Step
+pub mod Uploaded
+pub mod Uploads

@@ -36,6 +36,6 @@ abbrev pub state_after : (Kind → Functions) → State → ℕ → List Line �
 state_after f s k [] = s
 state_after f s k (l ∷ more) = state_after f (step f s k l).0 (k + 1) more
 
--- what a script prints, from the empty state with the script's tasks
-abbrev pub model_text : (Kind → Functions) → List Line → List ℕ
-model_text f lines = text_of (printed_from f (opening (tasks_of lines)) 1 lines)
+-- what a script prints, from the empty state with the given tasks and the script's
+abbrev pub model_text : (Kind → Functions) → List PlainTask → List Line → List ℕ
+model_text f given lines = text_of (printed_from f (opening (given ++ tasks_of lines)) 1 lines)

@@ -1,45 +1,32 @@
 -- The plain state: what is known at a moment of the run.
-use Rattle.std.specs.Prelude.{ℕ, ◌+◌, ◌-◌, ◌%◌, List, [], ◌++◌, ◌∷◌, length, Bool, ◌&&◌, nat_eq, is_none, if◌then◌else◌, Option, None}
+use Rattle.std.specs.Prelude.{ℕ, ◌+◌, List, [], ◌++◌, ◌∷◌, Bool, ◌&&◌, nat_eq, is_none, if◌then◌else◌, Option, None}
 use Rattle.std.specs.List.{list_any, find}
 use Rattle.std.specs.Option.{option_map, option_to_list}
 use Rattle.std.specs.Str.{bytes_eq}
-use Rattle.vdaf_api.specs.Functions.{Functions, Parts}
-use Rattle.vdaf_api.specs.Verdict.{numbers_of, opened, verdict}
+use Rattle.vdaf_api.specs.Functions.{Functions}
 use Rattle.vdaf_api.specs.declared.kind.Kind.{Kind}
+use Rattle.dap_batch.specs.Group.{batch_start}
+use Rattle.dap_messages.specs.Messages.{report}
+use Rattle.dap_messages.specs.declared.report.Report.{Report}
+use Rattle.dap_seal.specs.Reports.{content_numbers_of}
 use Rattle.dap_tasks.specs.Task.{PlainTask}
-
--- an accepted report: its task's name, its identifier, its time and its shares
-pub record Accepted : Type 0 where
-  pub task : List ℕ
-  pub id : List ℕ
-  pub time : ℕ
-  pub shares : Parts
-
--- The bytes of a report as long as no format spells it: its time, and its public, leader and helper shares, each of the
--- first two after its length. The time and the lengths stand as they are.
-abbrev pub report_of : Accepted → List ℕ
-report_of a =
-    a.time ∷ length a.shares.public ∷ (a.shares.public ++ length a.shares.leader ∷ (a.shares.leader ++ a.shares.helper))
 
 -- a collected batch: a task's name and the batch's start
 pub record Batch : Type 0 where
   pub task : List ℕ
   pub start : ℕ
 
--- The known tasks, the moment where one is known, the accepted reports in order, and the collected batches.
+-- The known tasks, the moment where one is known, the accepted reports in order, and the collected batches. A report stands
+-- for its bytes, which are its one spelling.
 pub record State : Type 0 where
   pub tasks : List PlainTask
   pub moment : Option ℕ
-  pub accepted : List Accepted
+  pub accepted : List Report
   pub collected : List Batch
 
 -- the tasks are known, and nothing else is
 abbrev pub opening : List PlainTask → State
 opening tasks = record { tasks = tasks; moment = None; accepted = []; collected = [] }
-
--- the start of the batch in which a time falls: the time rounded down to a multiple of the precision
-abbrev pub batch_of : ℕ → ℕ → ℕ
-batch_of time precision = time - time % precision
 
 -- the batch of this task that starts there
 abbrev pub is_batch : List ℕ → ℕ → Batch → Bool
@@ -50,29 +37,29 @@ abbrev pub is_collected : List Batch → List ℕ → ℕ → Bool
 is_collected collected name start = list_any (is_batch name start) collected
 
 -- of this task and with this identifier
-abbrev pub has_key : List ℕ → List ℕ → Accepted → Bool
-has_key name id a = bytes_eq a.task name && bytes_eq a.id id
+abbrev pub has_key : List ℕ → List ℕ → Report → Bool
+has_key name id r = bytes_eq r.name name && bytes_eq r.id id
 
 -- the bytes of the accepted report of this task with this identifier, if there is one
-abbrev pub known_in : List Accepted → List ℕ → List ℕ → Option (List ℕ)
-known_in accepted name id = option_map report_of (find (has_key name id) accepted)
+abbrev pub known_in : List Report → List ℕ → List ℕ → Option (List ℕ)
+known_in accepted name id = option_map report.spell (find (has_key name id) accepted)
 
 -- of this task and in the batch that starts there
-abbrev pub in_batch : PlainTask → ℕ → Accepted → Bool
-in_batch task start a = bytes_eq a.task task.name && nat_eq (batch_of a.time task.precision) start
+abbrev pub in_batch : PlainTask → ℕ → Report → Bool
+in_batch task start r = bytes_eq r.name task.name && nat_eq (batch_start r.time task.precision) start
 
 -- the content of a report of the task, which is a vector of numbers, or none where its verdict is failed
-abbrev pub content_of : (Kind → Functions) → PlainTask → Accepted → Option (List ℕ)
-content_of f task a = numbers_of (f task.kind) (verdict (f task.kind) (opened task.verify a.id a.shares))
+abbrev pub content_of : (Kind → Functions) → PlainTask → Report → Option (List ℕ)
+content_of f task r = content_numbers_of (f task.kind) task r
 
 -- the contents of a batch's reports, in order
-abbrev pub contents_in : (Kind → Functions) → PlainTask → ℕ → List Accepted → List (List ℕ)
+abbrev pub contents_in : (Kind → Functions) → PlainTask → ℕ → List Report → List (List ℕ)
 contents_in f task start [] = []
-contents_in f task start (a ∷ more) =
-    (if in_batch task start a then option_to_list (content_of f task a) else []) ++ contents_in f task start more
+contents_in f task start (r ∷ more) =
+    (if in_batch task start r then option_to_list (content_of f task r) else []) ++ contents_in f task start more
 
 -- how many of a batch's reports have no content
-abbrev pub rejected_in : (Kind → Functions) → PlainTask → ℕ → List Accepted → ℕ
+abbrev pub rejected_in : (Kind → Functions) → PlainTask → ℕ → List Report → ℕ
 rejected_in f task start [] = 0
-rejected_in f task start (a ∷ more) =
-    (if in_batch task start a && is_none (content_of f task a) then 1 else 0) + rejected_in f task start more
+rejected_in f task start (r ∷ more) =
+    (if in_batch task start r && is_none (content_of f task r) then 1 else 0) + rejected_in f task start more

@@ -1,10 +1,17 @@
 -- The plain step: what a line changes, and what it prints.
-use Rattle.std.specs.Prelude.{ℕ, ◌%◌, List, [], ◌∷◌, ◌++◌, length, Bool, ◌||◌, not, nat_eq, nat_le, max, if◌then◌else◌, Option, Some}
+use Rattle.std.specs.Prelude.{ℕ, ◌%◌, List, [], ◌∷◌, ◌++◌, length, take, Bool, ◌||◌, not, nat_eq, nat_le, max, if◌then◌else◌, Option, Some, None}
 use Rattle.std.specs.List.{find}
 use Rattle.std.specs.Option.{option_map_or}
+use Rattle.std.specs.Result.{result_ok}
+use Rattle.dap_bytes.specs.Name.{name_of}
 use Rattle.vdaf_api.specs.Functions.{Functions}
 use Rattle.vdaf_api.specs.Totals.{total_numbers}
 use Rattle.vdaf_api.specs.declared.kind.Kind.{Kind}
+use Rattle.dap_batch.specs.Group.{batch_start}
+use Rattle.dap_messages.specs.Grammar.{whole}
+use Rattle.dap_messages.specs.Messages.{report}
+use Rattle.dap_messages.specs.declared.report.Report.{Report}
+use Rattle.dap_seal.specs.Reports.{honest_report}
 use Rattle.dap_tasks.specs.Judged.{judged}
 use Rattle.dap_tasks.specs.Task.{PlainTask, has_name}
 use Rattle.dap_tasks.specs.declared.cause.Cause.{Cause}
@@ -13,7 +20,7 @@ use Rattle.dap_tasks.specs.declared.cause.Judged.{Judged}
 use Rattle.dap_tasks.specs.declared.cause.Judged.TheVariants.{Again, Barred, Added}
 use Rattle.dap_script.specs.declared.line.Line.{Line}
 use Rattle.dap_script.specs.declared.line.Line.TheVariants as line
-use Rattle.dap_model.specs.State.{Accepted, Batch, State, batch_of, contents_in, is_collected, known_in, rejected_in, report_of}
+use Rattle.dap_model.specs.State.{Batch, State, contents_in, is_collected, known_in, rejected_in}
 use Rattle.dap_model.specs.declared.printed.Printed.{Printed}
 use Rattle.dap_model.specs.declared.printed.Printed.TheVariants.{Collected, Small, Refused}
 
@@ -28,22 +35,42 @@ refused s k why = (s, Refused k why ∷ [])
 -- ---- reports
 
 -- what follows from the judgement of a report
-abbrev pub after_judgement : State → ℕ → Accepted → Judged → Outcome
+abbrev pub after_judgement : State → ℕ → Report → Judged → Outcome
 after_judgement s k new Again = (s, [])
 after_judgement s k new (Barred why) = refused s k why
 after_judgement s k new Added = (record s { accepted = s.accepted ++ new ∷ [] }, [])
 
 -- a report of the task is offered by line k
-abbrev pub offered : State → ℕ → PlainTask → Accepted → Outcome
+abbrev pub offered : State → ℕ → PlainTask → Report → Outcome
 offered s k task new =
     after_judgement s k new
-    (judged (known_in s.accepted new.task new.id) s.moment (is_collected s.collected new.task (batch_of new.time task.precision)) (report_of new) new.time)
+    (judged (known_in s.accepted new.name new.id) s.moment (is_collected s.collected new.name (batch_start new.time task.precision)) (report.spell new) new.time)
 
 -- the honest report of a measurement of the task is offered, if the measurement has shares
 abbrev pub measure_of : (Kind → Functions) → State → ℕ → List ℕ → ℕ → ℕ → List ℕ → PlainTask → Outcome
 measure_of f s k id time value seed task =
-    option_map_or (λ shares. offered s k task (record { task = task.name; id = id; time = time; shares = shares }))
-    ((f task.kind).shard id value seed) (refused s k cause.Value)
+    option_map_or (offered s k task) (honest_report (f task.kind) task id time value seed) (refused s k cause.Value)
+
+-- the name that bytes begin with, after its length
+abbrev pub name_in : List ℕ → Option (List ℕ)
+name_in [] = None
+name_in (size ∷ rest) = if nat_le size (length rest) then name_of (take size rest) else None
+
+-- the report that bytes spell
+abbrev pub report_in : List ℕ → Option Report
+report_in bytes = result_ok (whole report bytes)
+
+-- bytes are offered to the task, if they are a report
+abbrev pub upload_to : State → ℕ → List ℕ → PlainTask → Outcome
+upload_to s k bytes task = option_map_or (offered s k task) (report_in bytes) (refused s k cause.Form)
+
+-- bytes that begin with this name are offered to its task
+abbrev pub upload_named : State → ℕ → List ℕ → List ℕ → Outcome
+upload_named s k bytes name = option_map_or (upload_to s k bytes) (find (has_name name) s.tasks) (refused s k cause.Task)
+
+-- bytes are offered, if they begin with a name
+abbrev pub upload_of : State → ℕ → List ℕ → Outcome
+upload_of s k bytes = option_map_or (upload_named s k bytes) (name_in bytes) (refused s k cause.Form)
 
 -- ---- collections
 
@@ -78,13 +105,13 @@ collect_of f s k start task =
 abbrev pub raised : Option ℕ → ℕ → Option ℕ
 raised moment t = Some (option_map_or (max t) moment t)
 
--- What line k does. An upload changes nothing as long as no report is read from bytes.
+-- what line k does
 abbrev pub step : (Kind → Functions) → State → ℕ → Line → Outcome
 step f s k line.Blank = (s, [])
 step f s k (line.Task name kind min precision) = (s, [])
 step f s k (line.Now t) = (record s { moment = raised s.moment t }, [])
 step f s k (line.Measure name id time value seed) =
     option_map_or (measure_of f s k id time value seed) (find (has_name name) s.tasks) (refused s k cause.Task)
-step f s k (line.Upload report) = (s, [])
+step f s k (line.Upload bytes) = upload_of s k bytes
 step f s k (line.Collect name start) = option_map_or (collect_of f s k start) (find (has_name name) s.tasks) (refused s k cause.Task)
 step f s k (line.Restart node) = (s, [])

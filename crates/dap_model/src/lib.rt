@@ -2,13 +2,18 @@
 #![tactic(auto)]
 
 mod laws;
+mod limits;
 mod printed;
 mod printing;
 
 pub use laws::{
-    batches_are_counted, lines_change_what_they_name, measurements_print_nothing,
-    reports_are_accepted_once,
+    batches_are_counted, collections_are_repeated, honest_uploads_are_measurements,
+    lines_change_what_they_name, measurements_go_by_the_first_cause, measurements_print_nothing,
+    moments_are_the_greatest, offered_reports_are_judged, passed_limits_are_exact,
+    reports_are_accepted_once, segments_are_a_front, segments_are_whole,
+    uploaded_scripts_print_the_same, uploads_go_by_the_first_cause,
 };
+pub use limits::Limits;
 pub use printed::Printed;
 pub use printing::print_line;
 

@@ -1,108 +1,153 @@
--- What a call of the program comes to.
-use Rattle.std.specs.Prelude.{◌≡◌, ◌⊎◌, ℕ, ◌+◌, ◌<◌, List, [], ◌∷◌, map, length, codes, nat_lt, Bool, true, false, if◌then◌else◌, Option, Some, None, Result, Ok, Err, String, string_bytes, Vec}
+-- What a command comes to.
+use Rattle.std.specs.Prelude.{◌≡◌, ◌⊎◌, ℕ, ◌<◌, List, [], ◌∷◌, ◌++◌, length, true, Option, Some, None, Result, Ok, Err}
 use Rattle.std.specs.Io.KnownBytes.{Appends}
-use Rattle.std.specs.Option.{option_map_or}
-use Rattle.std.specs.Str.{bytes_eq}
-use Rattle.std.specs.declared.alloc.Global.{Global}
+use Rattle.std.specs.List.{flat_map}
 use Rattle.prio3_kinds.specs.Kinds.{functions_of_kind}
-use Rattle.dap_script.specs.Script.{script_of}
+use Rattle.dap_tasks.specs.File.{Refusal, tasks_of}
+use Rattle.dap_tasks.specs.Task.{PlainTask}
+use Rattle.dap_script.specs.Script.{is_longer, script_beside}
+use Rattle.dap_script.specs.Spelling.{spelling}
 use Rattle.dap_script.specs.declared.line.Line.{Line}
-use Rattle.dap_script.specs.declared.line.Line.TheVariants as line
+use Rattle.dap_script.specs.declared.line.Line.TheVariants.{Task}
+use Rattle.dap_model.specs.Limits.{Passed, passed_in, text_before}
 use Rattle.dap_model.specs.Run.{model_text}
+use Rattle.dap_model.specs.declared.limits.Limits.{Limits}
+use Rattle.dap_program.specs.Lines.{IsFull, later_line_of, lines_run, names_of}
 use Rattle.dap_program.specs.Transfer.{AppendsPart}
+use Rattle.dap_program.specs.Work.{Work, Scripted, Checked}
 use Rattle.dap_program.specs.declared.status.Status.{Status}
-use Rattle.dap_program.specs.declared.status.Status.TheVariants.{Done, Usage, ScriptRefused, NotYet, ReadFault, WriteFault, Limit, NoMemory}
+use Rattle.dap_program.specs.declared.status.Status.TheVariants.{Done, Usage, TasksRefused, ScriptRefused, NotYet, ReadFault, WriteFault, Limit, NoMemory}
 
--- the words as texts
-abbrev pub word_texts : List (String Global) → List (List ℕ)
-word_texts words = map string_bytes words
+-- how a work ends where nothing fails: the status, and what is printed
+pub record Outcome : Type 0 where
+  pub status : Status
+  pub text : List ℕ
 
--- The first word that no command has there, counted from 1. The one command is `run`.
-abbrev pub faulty_word_of : List (List ℕ) → Option ℕ
-faulty_word_of [] = Some 1
-faulty_word_of (word ∷ []) = if bytes_eq word (codes "run") then None else Some 1
-faulty_word_of (word ∷ next ∷ more) = if bytes_eq word (codes "run") then Some 2 else Some 1
+-- the limits of a run: 50,000 reports, and 268,435,456 bytes of them
+abbrev pub run_limits : Limits
+run_limits = record { reports = 50000; bytes = 268435456 }
 
--- a line of a form that isn't run yet: `now`, `upload` or `restart`
-abbrev pub is_later : Line → Bool
-is_later line.Blank = false
-is_later (line.Task name kind min precision) = false
-is_later (line.Now t) = true
-is_later (line.Measure name id time value seed) = false
-is_later (line.Upload report) = true
-is_later (line.Collect name start) = false
-is_later (line.Restart node) = true
+-- ---- a script
 
--- the first such line of these, of which the first is number n
-abbrev pub later_from : ℕ → List Line → Option ℕ
-later_from n [] = None
-later_from n (l ∷ lines) = if is_later l then Some n else later_from (n + 1) lines
+-- The model's text, or, where a limit of the run is passed, the text of the segments before the line with which it is.
+abbrev pub run_outcome : List PlainTask → List Line → Option Passed → Outcome
+run_outcome given lines None = record { status = Done; text = model_text functions_of_kind given lines }
+run_outcome given lines (Some passed) = record { status = Limit passed.line passed.limit; text = text_before functions_of_kind given lines passed.line }
 
--- the first such line, counted from 1
-abbrev pub later_line_of : List Line → Option ℕ
-later_line_of lines = later_from 1 lines
+-- the outcome of lines that are run, or of a script of which none are
+abbrev pub lines_outcome : List PlainTask → Result (List Line) Status → Outcome
+lines_outcome given (Ok lines) = run_outcome given lines (passed_in functions_of_kind run_limits given lines)
+lines_outcome given (Err status) = record { status = status; text = [] }
 
--- the status of a script's lines
-abbrev pub lines_status : List Line → Status
-lines_status lines = option_map_or NotYet (later_line_of lines) Done
+-- the outcome of a script beside the tasks of a file, or of a file that is refused
+abbrev pub script_outcome : Result (List PlainTask) Refusal → List ℕ → Outcome
+script_outcome (Ok given) script = lines_outcome given (lines_run given script)
+script_outcome (Err refusal) script = record { status = TasksRefused refusal.task refusal.field; text = [] }
 
--- what a script's lines print: nothing where one of them isn't run yet
-abbrev pub lines_text : List Line → List ℕ
-lines_text lines = option_map_or (λ line. []) (later_line_of lines) (model_text functions_of_kind lines)
+-- the tasks of the file that is named, and none where none is
+abbrev pub given_tasks : Option (List ℕ) → Result (List PlainTask) Refusal
+given_tasks None = Ok []
+given_tasks (Some file) = tasks_of file
 
--- the status of a script that reads, or the first line that is refused
-abbrev pub read_status : Result (List Line) ℕ → Status
-read_status (Ok lines) = lines_status lines
-read_status (Err line) = ScriptRefused line
+-- ---- a check
 
--- what a script that reads prints
-abbrev pub read_text : Result (List Line) ℕ → List ℕ
-read_text (Ok lines) = lines_text lines
-read_text (Err line) = []
+-- the line of a task and its end
+abbrev pub task_line : PlainTask → List ℕ
+task_line task = spelling (Task task.name task.kind task.min task.precision) ++ 10 ∷ []
 
--- what a script comes to, where nothing fails
-abbrev pub status_of : List ℕ → Status
-status_of input = if nat_lt 67108864 (length input) then Limit 0 5 else read_status (script_of input)
+-- the lines of the tasks of a file, or a file that is refused
+abbrev pub check_outcome : Result (List PlainTask) Refusal → Outcome
+check_outcome (Ok tasks) = record { status = Done; text = flat_map task_line tasks }
+check_outcome (Err refusal) = record { status = TasksRefused refusal.task refusal.field; text = [] }
 
--- what a script prints, where nothing fails
-abbrev pub output_of : List ℕ → List ℕ
-output_of input = if nat_lt 67108864 (length input) then [] else read_text (script_of input)
+-- ---- each work
 
--- the script has more bytes than the limit, which is number 5 and names no line
-abbrev pub IsTooLong : List ℕ → ℕ → ℕ → Type 0
-IsTooLong input line limit = (line ≡ 0) × (limit ≡ 5) × (67108864 < length input)
+abbrev pub outcome_of : Work → Outcome
+outcome_of (Scripted file script) = script_outcome (given_tasks file) script
+outcome_of (Checked file) = check_outcome (tasks_of file)
 
--- the script reads, and this is its first line that isn't run yet
-abbrev pub IsNotYet : List ℕ → ℕ → Type 0
-IsNotYet input line = (lines : List Line) × (script_of input ≡ Ok lines) × (later_line_of lines ≡ Some line)
+-- what a work comes to, where nothing fails
+abbrev pub status_of : Work → Status
+status_of work = (outcome_of work).status
+
+-- what a work prints, where nothing fails
+abbrev pub output_of : Work → List ℕ
+output_of work = (outcome_of work).text
+
+-- ---- what a status says of the work
+
+-- this field of this task is the first that is refused in the file
+abbrev pub IsTasksRefused : List ℕ → ℕ → List ℕ → Type 0
+IsTasksRefused file task field = tasks_of file ≡ Err (record { task = task; field = field })
+
+-- the file reads, and this is the first line that is refused beside its tasks
+abbrev pub IsScriptRefused : Work → ℕ → Type 0
+IsScriptRefused (Scripted file script) line =
+    (given : List PlainTask) × (given_tasks file ≡ Ok given) × (script_beside (names_of given) script ≡ Err line)
+IsScriptRefused (Checked file) line = ⊥
+
+-- the file and the script read: the tasks of the one, and the lines of the other
+pub record Reads (file : Option (List ℕ)) (script : List ℕ) : Type 0 where
+  pub given : List PlainTask
+  pub lines : List Line
+  pub tasks_read : given_tasks file ≡ Ok given
+  pub script_read : script_beside (names_of given) script ≡ Ok lines
+
+-- they read, and this is the first line that isn't run yet
+abbrev pub IsNotYet : Work → ℕ → Type 0
+IsNotYet (Scripted file script) n = (r : Reads file script) × (later_line_of r.lines ≡ Some n)
+IsNotYet (Checked file) n = ⊥
+
+-- Limit 5: the script has too many bytes, and no line is named.
+abbrev pub HasTooManyBytes : List ℕ → ℕ → ℕ → Type 0
+HasTooManyBytes script line limit = (limit ≡ 5) × (line ≡ 0) × (67108864 < length script)
+
+-- Limit 4: it has too many lines, and the first beyond them is named.
+abbrev pub HasTooManyLines : List ℕ → ℕ → ℕ → Type 0
+HasTooManyLines script line limit = (limit ≡ 4) × (line ≡ 1000001) × (is_longer script 1000000 ≡ true)
+
+-- Limit 1: too many tasks are known with this line, and not before.
+abbrev pub HasTooManyTasks : (file : Option (List ℕ)) → (script : List ℕ) → Reads file script → ℕ → ℕ → Type 0
+HasTooManyTasks file script r line limit = (limit ≡ 1) × IsFull r.given r.lines line
+
+-- Limits 2 and 3: too many reports or too many bytes of reports are offered with this line, and not before.
+abbrev pub OffersTooMuch : (file : Option (List ℕ)) → (script : List ℕ) → Reads file script → ℕ → ℕ → Type 0
+OffersTooMuch file script r line limit =
+    passed_in functions_of_kind run_limits r.given r.lines ≡ Some (record { line = line; limit = limit })
+
+-- the limit of this number is passed with this line
+abbrev pub IsPassed : Work → ℕ → ℕ → Type 0
+IsPassed (Scripted file script) line limit =
+    HasTooManyBytes script line limit ⊎ HasTooManyLines script line limit
+    ⊎ ((r : Reads file script) × (HasTooManyTasks file script r line limit ⊎ OffersTooMuch file script r line limit))
+IsPassed (Checked file) line limit = ⊥
+
+-- ---- how a call ends
 
 -- what may come at any time: a fault of a device, or want of memory
 abbrev pub IsStop : Status → Type 0
 IsStop status = (status ≡ ReadFault) ⊎ (status ≡ WriteFault) ⊎ (status ≡ NoMemory)
 
--- The held bytes grew by the text on Done, else by a front of it.
+-- The held bytes grew by the text, or by a front of it where a failing sink or want of memory came in between.
 abbrev pub Prints : Status → Option (List ℕ) → Option (List ℕ) → List ℕ → Type 0
 Prints Done old new text = Appends old new text
-Prints (Usage word) old new text = AppendsPart old new text
-Prints (ScriptRefused line) old new text = AppendsPart old new text
-Prints (NotYet line) old new text = AppendsPart old new text
+Prints (Usage word) old new text = Appends old new text
+Prints (TasksRefused task field) old new text = Appends old new text
+Prints (ScriptRefused line) old new text = Appends old new text
+Prints (NotYet line) old new text = Appends old new text
+Prints (Limit line limit) old new text = Appends old new text
 Prints ReadFault old new text = AppendsPart old new text
 Prints WriteFault old new text = AppendsPart old new text
-Prints (Limit line limit) old new text = AppendsPart old new text
 Prints NoMemory old new text = AppendsPart old new text
 
 -- answers that come before anything is printed
 abbrev pub IsSilent : Status → Type 0
 IsSilent Done = ⊥
 IsSilent (Usage word) = Unit {0}
+IsSilent (TasksRefused task field) = Unit {0}
 IsSilent (ScriptRefused line) = Unit {0}
 IsSilent (NotYet line) = Unit {0}
 IsSilent ReadFault = Unit {0}
 IsSilent WriteFault = ⊥
-IsSilent (Limit line limit) = Unit {0}
+IsSilent (Limit line limit) = (limit ≡ 1) ⊎ (limit ≡ 4) ⊎ (limit ≡ 5)
 IsSilent NoMemory = ⊥
-
--- what the lines print, the line that isn't run yet, or want of memory
-abbrev pub Comes : Result (Vec ℕ Global) Status → List Line → Type 0
-Comes (Ok text) lines = (later_line_of lines ≡ None) × (text.items ≡ lines_text lines)
-Comes (Err status) lines = (status ≡ NoMemory) ⊎ ((line : ℕ) × (later_line_of lines ≡ Some line) × (status ≡ NotYet line))

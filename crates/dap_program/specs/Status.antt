@@ -1,16 +1,30 @@
 -- Which status an error becomes, and the number of a status.
 use Rattle.std.specs.Prelude.{ℕ}
+use Rattle.dap_outside.specs.declared.files.FileFault.{FileFault}
+use Rattle.dap_outside.specs.declared.files.FileFault.TheVariants as file
 use Rattle.dap_outside.specs.declared.sink.SinkFault.{SinkFault}
 use Rattle.dap_outside.specs.declared.sink.SinkFault.TheVariants as sink
+use Rattle.dap_tasks.specs.declared.fault.TasksFault.{TasksFault}
+use Rattle.dap_tasks.specs.declared.fault.TasksFault.TheVariants as tasks
 use Rattle.dap_script.specs.declared.fault.ScriptFault.{ScriptFault}
 use Rattle.dap_script.specs.declared.fault.ScriptFault.TheVariants as script
 use Rattle.dap_program.specs.declared.status.Status.{Status}
-use Rattle.dap_program.specs.declared.status.Status.TheVariants.{Done, Usage, ScriptRefused, NotYet, ReadFault, WriteFault, Limit, NoMemory}
+use Rattle.dap_program.specs.declared.status.Status.TheVariants.{Done, Usage, TasksRefused, ScriptRefused, NotYet, ReadFault, WriteFault, Limit, NoMemory}
 
 -- the status of a sink's fault
 abbrev pub after_sink : SinkFault → Status
 after_sink sink.Failed = WriteFault
 after_sink sink.NoMemory = NoMemory
+
+-- the status of a file's fault
+abbrev pub after_file : FileFault → Status
+after_file file.Failed = ReadFault
+after_file file.NoMemory = NoMemory
+
+-- the status of a task file that isn't read
+abbrev pub after_tasks : TasksFault → Status
+after_tasks (tasks.Refused task field) = TasksRefused task field
+after_tasks tasks.NoMemory = NoMemory
 
 -- the status of a script that isn't read
 abbrev pub after_script : ScriptFault → Status
@@ -21,6 +35,7 @@ after_script script.NoMemory = NoMemory
 abbrev pub number_of : Status → ℕ
 number_of Done = 0
 number_of (Usage word) = 1
+number_of (TasksRefused task field) = 2
 number_of (ScriptRefused line) = 3
 number_of ReadFault = 4
 number_of WriteFault = 5

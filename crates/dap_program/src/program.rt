@@ -1,134 +1,117 @@
 //! The top call.
 
-ghost use Rattle.std.specs.Prelude.{◌≡◌, ◌⊎◌, ◌↔◌, ◌≤◌, ◌<◌, ◌^◌, ℕ, [], length, Some, None, Err, IfSome, IfErr, OnOk, OnErr, IsErrOf};
-ghost use Rattle.std.specs.Io.KnownBytes.{Appends, IsAtEnd, Keeps};
+ghost use Rattle.std.specs.Prelude.{◌≡◌, ◌⊎◌, ◌↔◌, ◌≤◌, ℕ, List, Err, IfErr, IfOk, IfSome, IsErrOf, OnOk};
+ghost use Rattle.std.specs.Io.KnownBytes.{IsAtEnd};
 ghost use Rattle.dap_bytes.specs.Causes.{Rose};
-ghost use Rattle.dap_script.specs.Script.{script_of};
-ghost use Rattle.dap_script.specs.Spelling.{IsScript};
-ghost use Rattle.dap_program.specs.Headline.{word_texts, faulty_word_of, is_later, later_line_of, status_of, output_of, Comes, IsNotYet, IsStop, IsSilent, IsTooLong, Prints};
-ghost use Rattle.dap_program.specs.Transfer.{AppendsPart};
+ghost use Rattle.dap_program.specs.Headline.{outcome_of, status_of, output_of, IsNotYet, IsPassed, IsScriptRefused, IsSilent, IsStop, IsTasksRefused, Prints};
+ghost use Rattle.dap_program.specs.Runs.{Ends, status_after};
+ghost use Rattle.dap_program.specs.Words.{heard, plain, word_texts};
+ghost use Rattle.dap_program.specs.Work.{HasFile, IfFileTold, IfTold, IsRun, file_of, work_of};
 
+use crate::check::check;
+use crate::run::run;
 use crate::status::Status;
-use crate::transfer::{read_all, write_all};
-use dap_direct::printed_text;
-use dap_outside::{Sink, Source};
-use dap_script::{Line, read_script};
-use prio3_kinds::Prio3;
+use crate::words::{Command, hear};
+use dap_outside::{Files, Sink, Source};
 use std::alloc::Global;
 
-/// The first word that no command has there, counted from 1.
-fn faulty_word(words: &[String]) -> Option<u32>
-    ensures { result ≡ faulty_word_of (word_texts words.now) }
+/// The status of what was done.
+fn status_after(done: Result<(), Status>) -> Status
+    ensures { result ≡ status_after done }
 {
-    match words {
-        [word] if word.as_str() == "run" => None,
-        [word, _, ..] if word.as_str() == "run" => Some(2),
-        _ => Some(1),
+    match done {
+        Ok(()) => Status::Done,
+        Err(status) => status,
     }
 }
 
-/// Whether the line has a form that isn't run yet.
-fn is_later(line: &Line) -> bool
-    ensures { result ≡ is_later line.now }
-{
-    matches!(
-        line,
-        Line::Now { .. } | Line::Upload { .. } | Line::Restart { .. }
-    )
-}
-
-/// The first line that isn't run yet, counted from 1.
-fn later_line(lines: &[Line]) -> Option<u32>
-    requires { length lines.now < 2 ^ 31 }
-    ensures { result ≡ later_line_of lines.now }
-{
-    let mut number: u32 = 1;
-    for line in lines {
-        if is_later(line) {
-            return Some(number);
-        }
-        number += 1;
-    }
-    None
-}
-
-/// What the lines of a script print.
-fn text_of(alloc: Global, lines: &[Line]) -> Result<Vec<u8>, Status>
-    requires few { length lines.now < 2 ^ 31 }
-    requires is_script { IsScript lines.now }
-    ensures { Comes result lines.now }
-{
-    if let Some(line) = later_line(lines) {
-        return Err(Status::NotYet { line });
-    }
-    Ok(printed_text::<Prio3>(alloc, lines)?)
-}
-
-/// Reads the script, runs it and prints what its lines print.
-fn run<S: Source, K: Sink>(alloc: Global, script: &mut S, out: &mut K) -> Result<(), Status>
-    ensures status { IfErr result (λ status. IfSome (S.left script.old) (λ input. IsStop status ⊎ (status ≡ status_of input))) }
-    ensures done { OnOk result (IfSome (S.left script.old) (λ input. Status.Done ≡ status_of input)) }
-    ensures end { OnOk result (IsAtEnd (S.left script.new)) }
-    ensures whole { OnOk result (IfSome (S.left script.old) (λ input. Appends (K.held out.old) (K.held out.new) (output_of input))) }
-    ensures part { OnErr result (IfSome (S.left script.old) (λ input. AppendsPart (K.held out.old) (K.held out.new) (output_of input))) }
-    ensures read { IsErrOf result Status.ReadFault → Rose (S.faults script.old) (S.faults script.new) }
-    ensures write { IsErrOf result Status.WriteFault → Rose (K.faults out.old) (K.faults out.new) }
+/// Does what a command asks for.
+fn perform<S: Source, F: Files, K: Sink>(
+    alloc: Global,
+    command: Command<'_>,
+    script: &mut S,
+    files: &mut F,
+    out: &mut K,
+) -> Result<(), Status>
+    ensures ends { IfSome (work_of (plain command.entry) (S.left script.old) (F.contents files.old))
+        (λ work. Ends (status_after result) (K.held out.old) (K.held out.new) (outcome_of work)) }
+    ensures tasks { (task : ℕ) (field : List ℕ) → IsErrOf result (Status.TasksRefused task field)
+        → IfSome (file_of (plain command.entry) (F.contents files.old)) (λ file. IsTasksRefused file task field) }
     ensures silent { IfErr result (λ status. IsSilent status → K.held out.new ≡ K.held out.old) }
+    ensures read { IsErrOf result Status.ReadFault → Rose (S.faults script.old) (S.faults script.new) ⊎ Rose (F.faults files.old) (F.faults files.new) }
+    ensures write { IsErrOf result Status.WriteFault → Rose (K.faults out.old) (K.faults out.new) }
     ensures reads { S.faults script.old ≤ S.faults script.new }
+    ensures reads_files { F.faults files.old ≤ F.faults files.new }
     ensures writes { K.faults out.old ≤ K.faults out.new }
+    ensures end { IsRun (plain command.entry) → OnOk result (IsAtEnd (S.left script.new)) }
+    ensures script { (IsRun (plain command.entry) → ⊥) → script.new ≡ script.old }
+    ensures files { (HasFile (plain command.entry) → ⊥) → files.new ≡ files.old }
+    ensures kept { (file : List ℕ) → F.contents files.new file ≡ F.contents files.old file }
     ensures usage { (word : ℕ) → IsErrOf result (Status.Usage word) → ⊥ }
     ensures never { IsErrOf result Status.Done → ⊥ }
 {
-    let bytes = read_all(alloc, script)?;
-    let lines = read_script(alloc, &bytes)?;
-    let text = text_of(alloc, &lines)?;
-    write_all(out, &text)?;
-    Ok(())
+    match command {
+        Command::Run { tasks } => run(alloc, tasks, script, files, out),
+        Command::Check { tasks } => check(alloc, tasks, files, out),
+    }
 }
 
-/// Does all that the program does: reads the script, runs it and prints what its lines print.
-pub fn dap_alone<S: Source, K: Sink>(
+/// Does all that the program does: runs a script, with the tasks of a file where one is named, or prints the tasks of a
+/// file.
+pub fn dap_alone<S: Source, F: Files, K: Sink>(
     alloc: Global,
     words: &[String],
     script: &mut S,
+    files: &mut F,
     out: &mut K,
 ) -> Status
     // The words are refused exactly where they are no command, and then nothing is touched.
-    ensures usage { (word : ℕ) → (result ≡ Status.Usage word) ↔ (faulty_word_of (word_texts words.now) ≡ Some word) }
-    ensures untouched { (word : ℕ) → result ≡ Status.Usage word → (script.new ≡ script.old) × (out.new ≡ out.old) }
+    ensures usage { (word : ℕ) → (result ≡ Status.Usage word) ↔ (heard (word_texts words.now) ≡ Err word) }
+    ensures untouched { (word : ℕ) → result ≡ Status.Usage word → (script.new ≡ script.old) × (files.new ≡ files.old) × (out.new ≡ out.old) }
 
-    // Else the status is the script's, unless a device failed or memory ran out.
-    ensures exact { faulty_word_of (word_texts words.now) ≡ None → IfSome (S.left script.old) (λ input. IsStop result ⊎ (result ≡ status_of input)) }
+    // Else the status is the work's, unless a device failed or memory ran out.
+    ensures exact { IfTold (word_texts words.now) (S.left script.old) (F.contents files.old) (λ work. IsStop result ⊎ (result ≡ status_of work)) }
 
-    // A line is refused only where the script is none from this line on.
-    ensures refused { (line : ℕ) → result ≡ Status.ScriptRefused line → IfSome (S.left script.old) (λ input. script_of input ≡ Err line) }
+    // A task file is refused only where it is none from this field of this task on.
+    ensures tasks { (task : ℕ) (field : List ℕ) → result ≡ Status.TasksRefused task field
+        → IfFileTold (word_texts words.now) (F.contents files.old) (λ file. IsTasksRefused file task field) }
+
+    // A line is refused only where the script is none from this line on, beside the tasks of the file.
+    ensures refused { (line : ℕ) → result ≡ Status.ScriptRefused line
+        → IfTold (word_texts words.now) (S.left script.old) (F.contents files.old) (λ work. IsScriptRefused work line) }
 
     // A line is not yet run only where the whole script reads, and it is the first of these forms.
-    ensures not_yet { (line : ℕ) → result ≡ Status.NotYet line → IfSome (S.left script.old) (λ input. IsNotYet input line) }
+    ensures not_yet { (line : ℕ) → result ≡ Status.NotYet line
+        → IfTold (word_texts words.now) (S.left script.old) (F.contents files.old) (λ work. IsNotYet work line) }
 
-    // The one limit is passed exactly by a script of more bytes.
-    ensures limit { (line limit : ℕ) → result ≡ Status.Limit line limit → IfSome (S.left script.old) (λ input. IsTooLong input line limit) }
+    // A limit is passed only where there is more than it, and with the line that is named.
+    ensures limit { (line limit : ℕ) → result ≡ Status.Limit line limit
+        → IfTold (word_texts words.now) (S.left script.old) (F.contents files.old) (λ work. IsPassed work line limit) }
 
-    // Where nothing fails, the answer is the script's, with its whole text, or want of memory.
-    ensures complete { faulty_word_of (word_texts words.now) ≡ None → ¬ Rose (S.faults script.old) (S.faults script.new) → ¬ Rose (K.faults out.old) (K.faults out.new)
-        → IfSome (S.left script.old) (λ input. (result ≡ Status.NoMemory) ⊎ (result ≡ status_of input)) }
+    // Where nothing fails, the answer is the work's, with its whole text, or want of memory.
+    ensures complete { ¬ Rose (S.faults script.old) (S.faults script.new) → ¬ Rose (F.faults files.old) (F.faults files.new)
+        → ¬ Rose (K.faults out.old) (K.faults out.new)
+        → IfTold (word_texts words.now) (S.left script.old) (F.contents files.old) (λ work. (result ≡ Status.NoMemory) ⊎ (result ≡ status_of work)) }
 
     // A fault is answered only where it happened in this call, and the counts of faults never fall.
-    ensures read { result ≡ Status.ReadFault → Rose (S.faults script.old) (S.faults script.new) }
+    ensures read { result ≡ Status.ReadFault → Rose (S.faults script.old) (S.faults script.new) ⊎ Rose (F.faults files.old) (F.faults files.new) }
     ensures write { result ≡ Status.WriteFault → Rose (K.faults out.old) (K.faults out.new) }
     ensures reads { S.faults script.old ≤ S.faults script.new }
+    ensures reads_files { F.faults files.old ≤ F.faults files.new }
     ensures writes { K.faults out.old ≤ K.faults out.new }
 
-    // What is printed is the model's answer to the script: the whole on Done, else a front of it.
-    ensures printed { faulty_word_of (word_texts words.now) ≡ None → IfSome (S.left script.old) (λ input. Prints result (K.held out.old) (K.held out.new) (output_of input)) }
+    // What is printed is what the work prints: the whole of it, or a front where a fault or want of memory came between.
+    ensures printed { IfTold (word_texts words.now) (S.left script.old) (F.contents files.old) (λ work. Prints result (K.held out.old) (K.held out.new) (output_of work)) }
     ensures silent { IsSilent result → K.held out.new ≡ K.held out.old }
-    ensures end { result ≡ Status.Done → IsAtEnd (S.left script.new) }
+
+    // A run that is done has read its script to the end. What isn't asked for stays untouched, and no file changes.
+    ensures end { IfOk (heard (word_texts words.now)) (λ command. IsRun command → result ≡ Status.Done → IsAtEnd (S.left script.new)) }
+    ensures script { IfOk (heard (word_texts words.now)) (λ command. (IsRun command → ⊥) → script.new ≡ script.old) }
+    ensures files { IfOk (heard (word_texts words.now)) (λ command. (HasFile command → ⊥) → files.new ≡ files.old) }
+    ensures kept { (file : List ℕ) → F.contents files.new file ≡ F.contents files.old file }
 {
-    if let Some(word) = faulty_word(words) {
-        return Status::Usage { word };
-    }
-    match run(alloc, script, out) {
-        Ok(()) => Status::Done,
-        Err(status) => status,
+    match hear(words) {
+        Err(word) => Status::Usage { word },
+        Ok(command) => status_after(perform(alloc, command, script, files, out)),
     }
 }

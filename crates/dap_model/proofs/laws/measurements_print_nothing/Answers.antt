@@ -1,4 +1,4 @@
-use Rattle.dap_model.proofs.CountLaws.{measurements_print_nothing}
+use Rattle.dap_model.proofs.TakenLaws.{measurements_print_nothing}
 use Rattle.dap_model.proofs.laws.measurements_print_nothing.Goals as goal
 
 pub returns : goal.returns

@@ -1,7 +1,0 @@
-use Rattle.std.proofs.Common.{◌≡◌, ◌++◌, drop}
-use Rattle.dap_model.specs.Run.{tasks_of}
-use Rattle.dap_direct.proofs.direct.known_tasks.Given as goal
-
--- the tasks so far and those of what is left are those of all
-abbrev pub invariant-loop-line : goal.invariant-loop-line
-invariant-loop-line g l = l.tasks ++ tasks_of (drop l.line-index l.script) ≡ tasks_of l.script

@@ -1,0 +1,92 @@
+//! The accepted reports.
+
+ghost use Rattle.std.specs.Prelude.{◌≡◌, [], ◌∷◌, ◌++◌, IsTrue, IfSome, OnOk};
+ghost use Rattle.std.specs.Option.{option_map};
+ghost use Rattle.std.specs.Str.{bytes_eq};
+ghost use Rattle.dap_messages.specs.Messages.{report};
+ghost use Rattle.dap_model.specs.State.{has_key, known_in};
+ghost use Rattle.dap_direct.specs.Alike.{are_alike};
+
+use dap_bytes::{Id, Name};
+use dap_messages::Report;
+use std::alloc::{AllocError, Global};
+use std::marker::Model;
+
+/// The accepted reports, in order. Each has a spelling, and is kept as its fields. A contract sees them as their list.
+#[derive(Debug, Drop)]
+pub struct Accepted {
+    reports: Vec<Report>,
+}
+
+impl Model for Accepted {
+    ghost use Rattle.std.specs.Prelude.{List, All, IsTrue};
+    ghost use Rattle.dap_messages.specs.Messages.{report};
+    ghost use Rattle.dap_messages.specs.declared.report.Report.{Report};
+
+    ghost Value = { List Report };
+
+    ghost view = { λ a. a.reports.items };
+
+    ghost invariant = { λ a. All (λ r. IsTrue (report.allowed r)) a.reports.items };
+}
+
+/// Whether a report is of this task and has this identifier.
+fn has_key(report: &Report, task: &Name, id: &Id) -> bool
+    ensures { result ≡ has_key task.now id.now report.now }
+{
+    report.id == *id && report.name == *task
+}
+
+/// Whether two reports have the same fields.
+fn are_alike(known: &Report, new: &Report) -> bool
+    ensures { result ≡ are_alike known.now new.now }
+{
+    known.name == new.name
+        && known.id == new.id
+        && known.time == new.time
+        && known.public == new.public
+        && known.leader == new.leader
+        && known.helper == new.helper
+}
+
+/// Whether two reports have the same bytes, which is whether they have the same fields. It takes no memory.
+pub fn is_same(known: &Report, new: &Report) -> bool
+    requires known { IsTrue (report.allowed known.now) }
+    requires new { IsTrue (report.allowed new.now) }
+    ensures { result ≡ bytes_eq (report.spell known.now) (report.spell new.now) }
+{
+    are_alike(known, new)
+}
+
+impl Accepted {
+    /// No reports. It takes no memory.
+    pub fn new(alloc: Global) -> Accepted
+        ensures { result ≡ [] }
+    {
+        Accepted {
+            reports: Vec::new(alloc),
+        }
+    }
+
+    /// The report of this task with this identifier, if there is one. It takes no memory.
+    pub fn find(&self, task: &Name, id: &Id) -> Option<&Report>
+        ensures known { option_map (λ r. report.spell r.now) result ≡ known_in self.now task.now id.now }
+        ensures spelled { IfSome result (λ r. IsTrue (report.allowed r.now)) }
+    {
+        for report in &self.reports {
+            if has_key(report, task, id) {
+                return Some(report);
+            }
+        }
+        None
+    }
+
+    /// Adds a report behind the others.
+    pub fn push(&mut self, new: Report) -> Result<(), AllocError>
+        requires { IsTrue (report.allowed new) }
+        ensures { OnOk result (self.new ≡ self.old ++ new ∷ []) }
+    {
+        self.reports.push(new)?;
+        Ok(())
+    }
+}

@@ -1,0 +1,29 @@
+-- The moment, in the times of the lines.
+use Rattle.std.specs.Prelude.{◌≡◌, ◌⊎◌, ◌+◌, ◌≤◌, ℕ, List, [], ◌∷◌, ◌++◌, Option, Some, None}
+use Rattle.std.specs.List.{All, Contains}
+use Rattle.dap_script.specs.declared.line.Line.{Line}
+use Rattle.dap_script.specs.declared.line.Line.TheVariants as line
+
+-- the time that a line tells, if it tells one
+abbrev pub time_in : Line → List ℕ
+time_in (line.Now t) = t ∷ []
+time_in line.Blank = []
+time_in (line.Task name kind min precision) = []
+time_in (line.Measure name id time value seed) = []
+time_in (line.Upload bytes) = []
+time_in (line.Collect name start) = []
+time_in (line.Restart node) = []
+
+-- the times that lines tell, in order
+abbrev pub times_of : List Line → List ℕ
+times_of [] = []
+times_of (l ∷ more) = time_in l ++ times_of more
+
+-- the greatest of the times, or none where there are none
+abbrev pub IsGreatest : List ℕ → Option ℕ → Type 0
+IsGreatest times None = times ≡ []
+IsGreatest times (Some moment) = Contains times moment × All (λ t. t ≤ moment) times
+
+-- none of the times was told, or the time is at most 300 above one of them
+abbrev pub IsTimely : List ℕ → ℕ → Type 0
+IsTimely times time = (times ≡ []) ⊎ ((t : ℕ) × Contains times t × (time ≤ t + 300))

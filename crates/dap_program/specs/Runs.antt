@@ -1,0 +1,72 @@
+-- What the parts of a run answer: what they are to give, or a fault.
+use Rattle.std.specs.Prelude.{◌≡◌, ◌⊎◌, ℕ, List, Option, Result, Ok, Err, Vec}
+use Rattle.std.specs.declared.alloc.Global.{Global}
+use Rattle.dap_tasks.specs.File.{Refusal}
+use Rattle.dap_tasks.specs.Task.{PlainTask}
+use Rattle.dap_script.specs.declared.line.Line.{Line}
+use Rattle.dap_program.specs.Headline.{IsStop, Outcome, Prints}
+use Rattle.dap_program.specs.Lines.{lines_run}
+use Rattle.dap_program.specs.declared.status.Status.{Status}
+use Rattle.dap_program.specs.declared.status.Status.TheVariants.{Done, Usage, TasksRefused, ScriptRefused, NotYet, ReadFault, WriteFault, Limit, NoMemory}
+
+-- the lines that are run, or the status of a script of which none are
+abbrev pub Plans : Result (Vec Line Global) Status → List PlainTask → List ℕ → Type 0
+Plans (Ok lines) given script = lines_run given script ≡ Ok lines.items
+Plans (Err status) given script = (status ≡ NoMemory) ⊎ (lines_run given script ≡ Err status)
+
+-- the tasks of a file, or the status of one that is refused
+abbrev pub Gives : Result (Vec PlainTask Global) Status → Result (List PlainTask) Refusal → Type 0
+Gives (Ok tasks) read = read ≡ Ok tasks.items
+Gives (Err status) read =
+    (status ≡ ReadFault) ⊎ (status ≡ NoMemory)
+    ⊎ ((refusal : Refusal) × (read ≡ Err refusal) × (status ≡ TasksRefused refusal.task refusal.field))
+
+-- a fault of the files, a refusal or want of memory
+abbrev pub IsFileStop : Status → Type 0
+IsFileStop status = (status ≡ ReadFault) ⊎ (status ≡ NoMemory) ⊎ ((task : ℕ) × (field : List ℕ) × (status ≡ TasksRefused task field))
+
+-- a limit that is passed while lines are run, a fault of the sink or want of memory
+abbrev pub IsRunStop : Status → Type 0
+IsRunStop (Limit line limit) = (limit ≡ 2) ⊎ (limit ≡ 3)
+IsRunStop WriteFault = Unit {0}
+IsRunStop NoMemory = Unit {0}
+IsRunStop Done = ⊥
+IsRunStop (Usage word) = ⊥
+IsRunStop (TasksRefused task field) = ⊥
+IsRunStop (ScriptRefused line) = ⊥
+IsRunStop (NotYet line) = ⊥
+IsRunStop ReadFault = ⊥
+
+-- what a script may be stopped by once its bytes are read
+abbrev pub IsScriptStop : Status → Type 0
+IsScriptStop (ScriptRefused line) = Unit {0}
+IsScriptStop (NotYet line) = Unit {0}
+IsScriptStop (Limit line limit) = Unit {0}
+IsScriptStop WriteFault = Unit {0}
+IsScriptStop NoMemory = Unit {0}
+IsScriptStop Done = ⊥
+IsScriptStop (Usage word) = ⊥
+IsScriptStop (TasksRefused task field) = ⊥
+IsScriptStop ReadFault = ⊥
+
+-- what a check may be stopped by
+abbrev pub IsCheckStop : Status → Type 0
+IsCheckStop (TasksRefused task field) = Unit {0}
+IsCheckStop ReadFault = Unit {0}
+IsCheckStop WriteFault = Unit {0}
+IsCheckStop NoMemory = Unit {0}
+IsCheckStop Done = ⊥
+IsCheckStop (Usage word) = ⊥
+IsCheckStop (ScriptRefused line) = ⊥
+IsCheckStop (NotYet line) = ⊥
+IsCheckStop (Limit line limit) = ⊥
+
+-- the status of an answer
+abbrev pub status_after : Result (Unit {0}) Status → Status
+status_after (Ok done) = Done
+status_after (Err status) = status
+
+-- the answer is the outcome's, and so is what was printed, or a fault came in between
+pub record Ends (status : Status) (old new : Option (List ℕ)) (outcome : Outcome) : Type 0 where
+  pub exact : IsStop status ⊎ (status ≡ outcome.status)
+  pub printed : Prints status old new outcome.text

@@ -1,0 +1,268 @@
+//! Scripts without a task file, and words.
+
+use super::{THREE_REPORTS, check_call, task_lines};
+use std::test::Fail;
+
+/// Scripts and what they print.
+const PRINTED: [(&str, &str); 22] = [
+    (
+        THREE_REPORTS,
+        "collected v 0 reports 3 rejected 0 count 2\n",
+    ),
+    // No line, and a blank one, a comment and a carriage return.
+    ("", ""),
+    (
+        "\n# two lines that do nothing\ntask v count 1 1\r\ncollect v 7\r\n",
+        "small v 7 reports 0\n",
+    ),
+    // One report fewer than the minimum.
+    (
+        "task v count 4 3600
+measure v 00000000000000000000000000000001 10 1 00000000000000000000000000000001
+measure v 00000000000000000000000000000002 20 0 00000000000000000000000000000002
+measure v 00000000000000000000000000000003 3599 1 00000000000000000000000000000003
+collect v 0
+",
+        "small v 0 reports 3\n",
+    ),
+    // A small batch stays open.
+    (
+        "task v count 3 3600
+measure v 00000000000000000000000000000001 10 1 00000000000000000000000000000001
+measure v 00000000000000000000000000000002 20 0 00000000000000000000000000000002
+collect v 0
+measure v 00000000000000000000000000000003 3599 1 00000000000000000000000000000003
+collect v 0
+collect v 3600
+",
+        "small v 0 reports 2
+collected v 0 reports 3 rejected 0 count 2
+small v 3600 reports 0
+",
+    ),
+    // A batch ends before the next begins.
+    (
+        "task v count 1 3600
+measure v 00000000000000000000000000000001 3599 1 00000000000000000000000000000001
+measure v 00000000000000000000000000000002 3600 1 00000000000000000000000000000002
+collect v 0
+collect v 3600
+",
+        "collected v 0 reports 1 rejected 0 count 1
+collected v 3600 reports 1 rejected 0 count 1
+",
+    ),
+    // A repeat is accepted and not counted again.
+    (
+        "task v count 3 3600
+measure v 00000000000000000000000000000001 10 1 00000000000000000000000000000001
+measure v 00000000000000000000000000000001 10 1 00000000000000000000000000000001
+measure v 00000000000000000000000000000002 20 0 00000000000000000000000000000002
+measure v 00000000000000000000000000000003 3599 1 00000000000000000000000000000003
+collect v 0
+",
+        "collected v 0 reports 3 rejected 0 count 2\n",
+    ),
+    // Another report under an identifier that is taken.
+    (
+        "task v count 3 3600
+measure v 00000000000000000000000000000001 10 1 00000000000000000000000000000001
+measure v 00000000000000000000000000000002 20 0 00000000000000000000000000000002
+measure v 00000000000000000000000000000001 3600 1 00000000000000000000000000000001
+measure v 00000000000000000000000000000003 3599 1 00000000000000000000000000000003
+collect v 0
+",
+        "refused 4 conflict
+collected v 0 reports 3 rejected 0 count 2
+",
+    ),
+    // A collected batch takes no more, and is printed again.
+    (
+        "task v count 3 3600
+measure v 00000000000000000000000000000001 10 1 00000000000000000000000000000001
+measure v 00000000000000000000000000000002 20 0 00000000000000000000000000000002
+measure v 00000000000000000000000000000003 3599 1 00000000000000000000000000000003
+collect v 0
+measure v 00000000000000000000000000000004 30 1 00000000000000000000000000000004
+collect v 0
+",
+        "collected v 0 reports 3 rejected 0 count 2
+refused 6 collected
+collected v 0 reports 3 rejected 0 count 2
+",
+    ),
+    // A sum of 8 bits, and a value that has 9.
+    (
+        "task s sum 8 3 3600
+measure s 00000000000000000000000000000001 10 255 00000000000000000000000000000001
+measure s 00000000000000000000000000000002 20 0 00000000000000000000000000000002
+measure s 00000000000000000000000000000003 3599 7 00000000000000000000000000000003
+measure s 00000000000000000000000000000004 1 256 00000000000000000000000000000004
+collect s 0
+",
+        "refused 5 value
+collected s 0 reports 3 rejected 0 sum 262
+",
+    ),
+    // A sum of 64 bits that passes them.
+    (
+        "task s sum 64 3 3600
+measure s 00000000000000000000000000000001 10 18446744073709551615 00000000000000000000000000000001
+measure s 00000000000000000000000000000002 20 18446744073709551615 00000000000000000000000000000002
+measure s 00000000000000000000000000000003 3599 18446744073709551615 00000000000000000000000000000003
+collect s 0
+",
+        "collected s 0 reports 3 rejected 0 sum 55340232221128654845\n",
+    ),
+    // A bound belongs to the bucket below it.
+    (
+        "task h histogram 10,20,30 1 3600
+measure h 00000000000000000000000000000001 1 10 00000000000000000000000000000001
+measure h 00000000000000000000000000000002 2 11 00000000000000000000000000000002
+measure h 00000000000000000000000000000003 3 30 00000000000000000000000000000003
+measure h 00000000000000000000000000000004 4 31 00000000000000000000000000000004
+collect h 0
+",
+        "collected h 0 reports 4 rejected 0 histogram 1,1,1,1\n",
+    ),
+    // No such task, and a start inside a batch.
+    (
+        "task v count 3 3600\ncollect w 0\ncollect v 1\n",
+        "refused 2 task\nrefused 3 start\n",
+    ),
+    (
+        "measure w 00000000000000000000000000000001 0 1 00000000000000000000000000000001
+task w count 1 1
+measure v 00000000000000000000000000000001 0 1 00000000000000000000000000000001
+collect w 0
+",
+        "refused 3 task\ncollected w 0 reports 1 rejected 0 count 1\n",
+    ),
+    // Tasks have their own reports, and batches any order.
+    (
+        "task a count 1 10
+task b sum 1 1 20
+measure b 00000000000000000000000000000001 39 1 00000000000000000000000000000001
+measure a 00000000000000000000000000000001 39 0 00000000000000000000000000000001
+collect b 20
+collect a 30
+collect a 0
+",
+        "collected b 20 reports 1 rejected 0 sum 1
+collected a 30 reports 1 rejected 0 count 0
+small a 0 reports 0
+",
+    ),
+    ("task v count 3 3600", ""),
+    // A report more than 300 above the moment, and one that isn't.
+    (
+        "task v count 1 3600
+now 100
+measure v 00000000000000000000000000000001 500 1 00000000000000000000000000000001
+measure v 00000000000000000000000000000002 400 1 00000000000000000000000000000002
+collect v 0
+",
+        "refused 3 early\ncollected v 0 reports 1 rejected 0 count 1\n",
+    ),
+    // An uploaded report counts as a measured one.
+    (
+        "task v count 3 3600
+measure v 00000000000000000000000000000001 10 1 00000000000000000000000000000001
+measure v 00000000000000000000000000000002 20 0 00000000000000000000000000000002
+measure v 00000000000000000000000000000003 3599 1 00000000000000000000000000000003
+upload AXYAAAAAAAAAAAAAAAAAAAAEAAAAAAAAAB4AAAAAAAAAAABAV12ADHmzT8PeDl9QnS1yabhKHxX7fz2oEsqGSVUg1rRlBcf1szRYqBgwkTVMq65AjGEZCJJ3JQVYyyAwdVjENgAAADCRZZ6bOxPSeYy/jJsVGzTkRk4VTXdpj9s9Zm+Eh34MLw8LJVMOuBnjaQgtRh9nJpg=
+collect v 0
+",
+        "collected v 0 reports 4 rejected 0 count 3\n",
+    ),
+    // Where the first bit of the helper's half is changed, it is rejected.
+    (
+        "task v count 3 3600
+measure v 00000000000000000000000000000001 10 1 00000000000000000000000000000001
+measure v 00000000000000000000000000000002 20 0 00000000000000000000000000000002
+measure v 00000000000000000000000000000003 3599 1 00000000000000000000000000000003
+upload AXYAAAAAAAAAAAAAAAAAAAAEAAAAAAAAAB4AAAAAAAAAAABAV12ADHmzT8PeDl9QnS1yabhKHxX7fz2oEsqGSVUg1rRlBcf1szRYqBgwkTVMq65AjGEZCJJ3JQVYyyAwdVjENgAAADARZZ6bOxPSeYy/jJsVGzTkRk4VTXdpj9s9Zm+Eh34MLw8LJVMOuBnjaQgtRh9nJpg=
+collect v 0
+",
+        "collected v 0 reports 3 rejected 1 count 2\n",
+    ),
+    // Bytes that begin with no name, with that of no task, and with that of a task but go on as no report.
+    ("upload AAAA\n", "refused 1 form\n"),
+    ("upload AXgA\n", "refused 1 task\n"),
+    ("task x count 1 1\nupload AXgA\n", "refused 2 form\n"),
+];
+
+#[test]
+fn scripts_print_what_the_model_says(rt: HostRuntime) -> Result<(), Fail> {
+    for (script, text) in &PRINTED {
+        check_call(&rt, rt.alloc(), &["run"], &[], script, (0, "done"), text)?;
+    }
+    Ok(())
+}
+
+/// Scripts that aren't run, and the status.
+const STOPPED: [(&str, (u8, &str)); 9] = [
+    (
+        "task v count 3 3600\nmeasur v\n",
+        (3, "script refused: line 2"),
+    ),
+    ("task v count 0 1\n", (3, "script refused: line 1")),
+    (
+        "task v count 1 1\ncollect v 0\ntask v sum 1 1 1",
+        (3, "script refused: line 3"),
+    ),
+    // The grammar is tested first.
+    ("restart leader\nx\n", (3, "script refused: line 2")),
+    (
+        "task v count 1 1\ncollect v 0\nupload Zg==\nrestart leader\n",
+        (13, "not yet: line 4"),
+    ),
+    (
+        "\nrestart leader\nrestart helper\n",
+        (13, "not yet: line 2"),
+    ),
+    ("#\n\nrestart helper", (13, "not yet: line 3")),
+    ("upload Zg=\n", (3, "script refused: line 1")),
+    ("now 1000000000000000000\n", (3, "script refused: line 1")),
+];
+
+#[test]
+fn a_line_that_is_not_run_is_named(rt: HostRuntime) -> Result<(), Fail> {
+    for (script, status) in &STOPPED {
+        check_call(&rt, rt.alloc(), &["run"], &[], script, *status, "")?;
+    }
+    Ok(())
+}
+
+#[test]
+fn a_seventeenth_task_passes_a_limit(rt: HostRuntime) -> Result<(), Fail> {
+    let alloc = rt.alloc();
+    let lines = task_lines(alloc, 1, 18)?;
+    let status = (11, "limit 1 at line 17");
+    check_call(&rt, alloc, &["run"], &[], lines.as_str(), status, "")?;
+    // A line that isn't run yet is named first.
+    let later = format!(in alloc; "{lines}restart leader\n")?;
+    let status = (13, "not yet: line 18");
+    check_call(&rt, alloc, &["run"], &[], later.as_str(), status, "")
+}
+
+/// Words that are no command, and the status.
+const FAULTY: [(&[&str], &str); 9] = [
+    (&[], "usage: word 1"),
+    (&["ran"], "usage: word 1"),
+    (&["run", "lanes"], "usage: word 2"),
+    (&["run", "lanes", "17"], "usage: word 2"),
+    (&["run", ""], "usage: word 2"),
+    (&["run", "tasks", "lanes"], "usage: word 3"),
+    (&["check"], "usage: word 2"),
+    (&["check", "store"], "usage: word 2"),
+    (&["check", "tasks", "tasks"], "usage: word 3"),
+];
+
+#[test]
+fn words_that_are_no_command_are_refused(rt: HostRuntime) -> Result<(), Fail> {
+    for (words, text) in &FAULTY {
+        check_call(&rt, rt.alloc(), words, &[], THREE_REPORTS, (1, *text), "")?;
+    }
+    Ok(())
+}
