@@ -138,7 +138,7 @@ class Writer:
         return self.draw.randrange(100) < percent
 
     def task(self):
-        taken = self.chance(2) and self.given
+        taken = self.chance(1) and self.given
         name = self.draw.choice(self.given).name if taken else \
             f"{self.draw.choice('abcdegh')}{self.draw.choice(['', '-', '_1'])}{len(self.tasks)}"
         self.tasks.append(Task(self.draw, name))
@@ -222,7 +222,7 @@ class Writer:
                 lines.append(self.task())
             elif pick < 96:
                 lines.append(self.now())
-            elif self.chance(25):
+            elif self.chance(10):
                 lines.append(self.refused())
             elif self.chance(15):
                 lines.append(self.later())
