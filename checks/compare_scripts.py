@@ -1,12 +1,12 @@
 #!/usr/bin/env python3
 """Runs the program and an independent one on generated task files and scripts, and tells where they differ.
 
-    checks/compare_scripts.py REFERENCE [--scripts N] [--seed N]
+    checks/compare_scripts.py REFERENCE [--scripts N] [--seed N] [--word WORD]..
 
-REFERENCE is the path of a Python program with three commands: `run --level R5 [--tasks FILE] -` with a script on its
-standard input and `check --level R5 FILE` print what the program must print, put the text of the status on standard
-error and end with its number; `report --task-line LINE ID TIME VALUE SEED` and `report --tasks FILE --name NAME ID TIME
-VALUE SEED` print an honest report in base64. Each pair of a file and a script is drawn from the seed and its number:
+REFERENCE is the path of a Python program with three commands: `run [--tasks FILE] -` with a script on its standard input
+and `check FILE` print what the program must print, put the text of the status on standard error and end with its number,
+each with the given words behind it; `report --task-line LINE ID TIME VALUE SEED` and `report --tasks FILE --name NAME ID
+TIME VALUE SEED` print an honest report in base64. Each pair of a file and a script is drawn from the seed and its number:
 several tasks of every kind, some of the file's and some of the script's, measurements and uploads with repeats,
 conflicts, changed bytes and values out of range, moments, collections in any order, blank lines, comments and carriage
 returns, and now and then a file or a line that is refused or isn't run yet. Nothing is run in the gate: this takes
@@ -244,8 +244,9 @@ def run(command, script=b""):
 class Comparison:
     """Compares what both programs answer, and counts."""
 
-    def __init__(self, reference):
+    def __init__(self, reference, words):
         self.reference = [sys.executable, str(reference)]
+        self.words = words
         self.statuses = {}
         self.differ = 0
 
@@ -258,7 +259,7 @@ class Comparison:
         return report
 
     def compare(self, what, ours, theirs, script=b""):
-        ours, theirs = run([str(PROGRAM), *ours], script), run([*self.reference, *theirs], script)
+        ours, theirs = run([str(PROGRAM), *ours], script), run([*self.reference, *theirs, *self.words], script)
         self.statuses[theirs[0]] = self.statuses.get(theirs[0], 0) + 1
         if ours != theirs:
             self.differ += 1
@@ -270,24 +271,25 @@ def main():
     parser.add_argument("reference", type=Path)
     parser.add_argument("--scripts", type=int, default=200)
     parser.add_argument("--seed", type=int, default=0)
+    parser.add_argument("--word", action="append", default=[], help="a further word for the commands run and check")
     given = parser.parse_args()
     # This builds the program where that is still to be done.
     subprocess.run([str(TOP / "dap"), "--version"], capture_output=True, check=True)
-    files, scripts = Comparison(given.reference), Comparison(given.reference)
+    files, scripts = (Comparison(given.reference, given.word) for _ in range(2))
     with tempfile.TemporaryDirectory() as folder:
         path = str(Path(folder) / "tasks")
         for number in range(given.scripts):
             draw = random.Random(f"{given.seed} {number}")
             file = FileWriter(draw)
             Path(path).write_text(file.text(), encoding="utf-8")
-            files.compare(f"file {number}", ["check", path], ["check", "--level", "R5", path])
-            reads = run([*files.reference, "check", "--level", "R5", path])[0] == 0
+            files.compare(f"file {number}", ["check", path], ["check", path])
+            reads = run([*files.reference, "check", path])[0] == 0
             # A file that is refused is run beside a script now and then.
             beside = draw.randrange(2) == 0 and (reads or draw.randrange(4) == 0)
             own = file.tasks if beside and reads else []
             script = Writer(draw, own, scripts.honest(path, own)).script()
             words, options = (["run", path], ["--tasks", path]) if beside else (["run"], [])
-            scripts.compare(f"script {number}", words, ["run", "--level", "R5", *options, "-"], script)
+            scripts.compare(f"script {number}", words, ["run", *options, "-"], script)
     for what, done in [("files", files), ("scripts", scripts)]:
         told = ", ".join(f"{count} with status {status}" for status, count in sorted(done.statuses.items()))
         print(f"{given.scripts} {what} ({told}): {done.differ} differ")
