@@ -1,3 +1,4 @@
 pub mod Causes
 pub mod Cursor
 pub mod Name
+pub mod Shown

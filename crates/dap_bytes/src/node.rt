@@ -1,4 +1,6 @@
 //! The two aggregators.
+ghost use Rattle.std.specs.Prelude.{Some};
+ghost use Rattle.dap_bytes.specs.Shown.{node_word};
 
 use std::fmt;
 
@@ -10,6 +12,8 @@ pub enum Node {
 }
 
 impl fmt::Display for Node {
+    ghost output = { λ node. Some (node_word node) };
+
     fn fmt<W: fmt::Write>(&self, f: &mut fmt::Formatter<W>) -> fmt::Result {
         f.write_str(match self {
             Node::Leader => "leader",

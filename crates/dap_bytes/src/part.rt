@@ -1,4 +1,6 @@
 //! The parts of a node.
+ghost use Rattle.std.specs.Prelude.{Some};
+ghost use Rattle.dap_bytes.specs.Shown.{part_words};
 
 use std::fmt;
 
@@ -11,6 +13,8 @@ pub enum Part {
 }
 
 impl fmt::Display for Part {
+    ghost output = { λ part. Some (part_words part) };
+
     fn fmt<W: fmt::Write>(&self, f: &mut fmt::Formatter<W>) -> fmt::Result {
         match self {
             Part::Front => f.write_str("front"),
