@@ -11,8 +11,12 @@ pub struct Count<F> {
 }
 
 impl<F> Count<F> {
-    /// The one circuit of counts in this field.
-    pub fn new() -> Self {
+    ghost use Rattle.std.specs.Prelude.{◌≡◌};
+
+    /// The circuit of counts in this field. There is no other.
+    pub fn new() -> Self
+        ensures { (c : Count F) → c ≡ result }
+    {
         Count { field: PhantomData }
     }
 }
