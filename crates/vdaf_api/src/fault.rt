@@ -1,5 +1,9 @@
 //! Why a call gives nothing.
+ghost use Rattle.std.specs.Prelude.{◌≡◌};
+ghost use Rattle.vdaf_api.specs.declared.fault.PrepFault.TheVariants as prep;
+ghost use Rattle.vdaf_api.specs.declared.fault.ShardFault.TheVariants as shard;
 
+use std::alloc::AllocError;
 use thiserror::Error;
 
 /// Why a measurement has no shares.
@@ -23,4 +27,20 @@ pub enum PrepFault {
     Invalid,
     #[error("out of memory")]
     NoMemory,
+}
+
+impl From<AllocError> for ShardFault {
+    ghost from_gives = { λ _ fault. fault ≡ shard.NoMemory };
+
+    fn from(_: AllocError) -> Self {
+        ShardFault::NoMemory
+    }
+}
+
+impl From<AllocError> for PrepFault {
+    ghost from_gives = { λ _ fault. fault ≡ prep.NoMemory };
+
+    fn from(_: AllocError) -> Self {
+        PrepFault::NoMemory
+    }
 }
