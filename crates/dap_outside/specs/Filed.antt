@@ -2,7 +2,7 @@
 use Rattle.std.specs.Prelude.{ℕ, List, [], ◌∷◌, Bool, Option, Some, None, if◌then◌else◌, String, Vec, string_bytes}
 use Rattle.std.specs.Str.{bytes_eq}
 use Rattle.std.specs.declared.alloc.Global.{Global}
-use Rattle.dap_outside.specs.Plan.{fails_next}
+use Rattle.dap_outside.specs.Plan.{fails_next, calls_after}
 use Rattle.dap_outside.specs.declared.files.MemFiles.{MemFiles}
 
 -- what the first file of a name holds, if there is one
@@ -24,3 +24,11 @@ files_missed f = f.missed
 -- the next reading is one of those that fail
 abbrev pub reading_fails : MemFiles → Bool
 reading_fails f = fails_next f.plan
+
+-- what `files_missed` is after a reading: one more where the file isn't there, unless the reading is one of those that fail
+abbrev pub missed_of : Option (List ℕ) → Bool → ℕ → ℕ
+missed_of None fails missed = if fails then missed else calls_after missed
+missed_of (Some bytes) fails missed = missed
+
+abbrev pub missed_after : MemFiles → List ℕ → ℕ
+missed_after f name = missed_of (file_of f name) (reading_fails f) f.missed

@@ -29,13 +29,14 @@ pub trait Files {
     ghost faults: { Self → ℕ };
 
     /// The first 1,048,577 bytes of the file of this name, or all where it is shorter.
-    /// It fails only where the faults rose; a file that isn't there raises them. No file changes.
+    /// It fails only where the faults rose, and else they stay; a file that isn't there raises them. No file changes.
     fn read_file(&mut self, alloc: Global, name: &str) -> Result<Vec<u8>, FileFault>
         ensures bytes { IfOk result (λ read. IfSome (contents self.old name.now) (λ bytes. read.items ≡ take 1048577 bytes)) }
         ensures size { IfOk result (λ read. length read.items ≤ 1048577) }
         ensures kept { (file : List ℕ) → contents self.new file ≡ contents self.old file }
         ensures later { faults self.old ≤ faults self.new }
-        ensures failed { IsErrOf result FileFault.Failed → Rose (faults self.old) (faults self.new) };
+        ensures failed { IsErrOf result FileFault.Failed → Rose (faults self.old) (faults self.new) }
+        ensures calm { IsErrOf result FileFault.Failed ⊎ (faults self.new ≡ faults self.old) };
 }
 
 /// Files in memory, by name; of two of one name the first counts. Readings fail at the calls that are listed, counted
@@ -87,7 +88,7 @@ fn front(bytes: &[u8]) -> &[u8]
 }
 
 impl Files for MemFiles {
-    ghost use Rattle.dap_outside.specs.Filed.{file_of, files_read, files_missed, reading_fails};
+    ghost use Rattle.dap_outside.specs.Filed.{file_of, files_read, files_missed, missed_after, reading_fails};
 
     ghost contents = { λ f name. file_of f name };
 
@@ -99,12 +100,14 @@ impl Files for MemFiles {
         ensures kept { (file : List ℕ) → file_of self.new file ≡ file_of self.old file }
         ensures later { failed_calls self.old.plan + self.old.missed ≤ failed_calls self.new.plan + self.new.missed }
         ensures failed { IsErrOf result FileFault.Failed → Rose (failed_calls self.old.plan + self.old.missed) (failed_calls self.new.plan + self.new.missed) }
+        ensures calm { IsErrOf result FileFault.Failed ⊎ (failed_calls self.new.plan + self.new.missed ≡ failed_calls self.old.plan + self.old.missed) }
 
         // It fails exactly at the listed calls and where there is no such file. Without memory nothing changes.
         ensures fails { IsErrOf result FileFault.Failed → IsTrue (reading_fails self.old) ⊎ (file_of self.old name.now ≡ None) }
         ensures passes { IsOk result → (reading_fails self.old ≡ false) × (file_of self.old name.now ≢ None) }
         ensures memory { IsErrOf result FileFault.NoMemory → self.new ≡ self.old }
         ensures counted { IsErrOf result FileFault.NoMemory ⊎ (files_read self.new ≡ calls_after (files_read self.old)) }
+        ensures missed { IsErrOf result FileFault.NoMemory ⊎ (files_missed self.new ≡ missed_after self.old name.now) }
         ensures listed { self.new.plan.fails ≡ self.old.plan.fails }
     {
         let read = match find(&self.files, name) {
