@@ -1,6 +1,7 @@
 //! The system's files, read whole.
 
-ghost use Rattle.std.specs.Prelude.{◌≡◌, ◌≤◌, ℕ, None, length, IfOk};
+ghost use Rattle.std.specs.Prelude.{◌≡◌, ◌<◌, ◌≤◌, ℕ, None, length, take, IfOk, IfSome};
+ghost use Rattle.dap_files.specs.Taken.{TakesIn};
 
 use dap_outside::{FileFault, MAX_READ};
 use std::alloc::Global;
@@ -31,22 +32,31 @@ impl<'a, R: Files> DirFiles<'a, R> {
     }
 }
 
+/// Takes some more bytes in.
+fn read_more<F: Read>(file: &mut F, buf: &mut [u8], bytes: &mut Vec<u8>) -> Result<usize, FileFault>
+    requires { 0 < length buf.old }
+    ensures { IfOk result (TakesIn (F.remaining file.old) (F.remaining file.new) bytes.old.items bytes.new.items) }
+{
+    let count = file.read(buf).map_err(|_| FileFault::Failed)?;
+    bytes
+        .extend_from_slice(&buf[..count])
+        .map_err(|_| FileFault::NoMemory)?;
+    Ok(count)
+}
+
 /// The first 1,048,577 bytes of a reader, or all where there are fewer.
 fn read_front<F: Read>(alloc: Global, file: &mut F) -> Result<Vec<u8>, FileFault>
-    ensures { IfOk result (λ read. length read.items ≤ 1048577) }
+    ensures bytes { IfOk result (λ read. IfSome (F.remaining file.old) (λ left. read.items ≡ take 1048577 left)) }
+    ensures size { IfOk result (λ read. length read.items ≤ 1048577) }
 {
     let mut bytes = Vec::new(alloc);
     let mut buf = [0; 4096];
     while bytes.len() < MAX_READ {
-        let room = buf.len().min(MAX_READ - bytes.len());
-        let count = file.read(&mut buf[..room]).map_err(|_| FileFault::Failed)?;
-        if count == 0 {
-            break;
+        if read_more(file, &mut buf, &mut bytes)? == 0 {
+            return Ok(bytes);
         }
-        bytes
-            .extend_from_slice(&buf[..count])
-            .map_err(|_| FileFault::NoMemory)?;
     }
+    bytes.truncate(MAX_READ);
     Ok(bytes)
 }
 
