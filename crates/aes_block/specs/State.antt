@@ -12,6 +12,7 @@ at s r c = slice_index s (r + 4 * c)
 abbrev pub state : (ℕ → ℕ → ℕ) → List ℕ
 state f = map (λ i. f (i % 4) (i / 4)) (range_with_len 0 16)
 
+-- SubBytes: each byte through `sub_byte`
 unfoldable pub sub_bytes : List ℕ → List ℕ
 sub_bytes s = state (λ r c. sub_byte (at s r c))
 
@@ -28,8 +29,10 @@ abbrev pub mixed : List ℕ → ℕ → ℕ → ℕ
 mixed s r c =
     bit_xor (bit_xor (bit_xor (times (matrix r 0) (at s 0 c)) (times (matrix r 1) (at s 1 c))) (times (matrix r 2) (at s 2 c))) (times (matrix r 3) (at s 3 c))
 
+-- MixColumns: the matrix times each column
 unfoldable pub mix_columns : List ℕ → List ℕ
 mix_columns s = state (λ r c. mixed s r c)
 
+-- AddRoundKey: each byte joined with that of the key at its place
 unfoldable pub add_round_key : List ℕ → List ℕ → List ℕ
 add_round_key s key = state (λ r c. bit_xor (at s r c) (at key r c))

@@ -12,10 +12,11 @@ doubled block =
     let shifted = n * 2 % 2 ^ 128 in
     to_be_bytes w128 (if n / 2 ^ 127 == 1 then bit_xor shifted 0x87 else shifted)
 
--- K1 comes from the encryption of the zero block, and K2 from K1
+-- the first subkey, from the encryption of the zero block
 unfoldable pub first_subkey : List ℕ → List ℕ
 first_subkey key = doubled (encrypt key (replicate 16 0))
 
+-- the subkey after the first
 unfoldable pub second_subkey : List ℕ → List ℕ
 second_subkey key = doubled (first_subkey key)
 

@@ -31,6 +31,7 @@ module _ (p : ℕ) (number : ℕ → ℕ) where
 abbrev pub element_of : {F : Type 0} → (ℕ → F) → ℕ → ℕ → Option F
 element_of residue p number = if nat_lt number p then Some (residue number) else None
 
+-- the numbers as elements, where there are any
 abbrev pub as_elements : {F : Type 0} → (ℕ → F) → Option (List ℕ) → Option (List F)
 as_elements residue (Some xs) = Some (map residue xs)
 as_elements residue None = None

@@ -28,11 +28,13 @@ bucket_of kept name start = unwrap_or (map.get kept (name, start)) nothing
 abbrev pub changed : Kept → List ℕ → ℕ → Bucket → Kept
 changed kept name start bucket = map.insert kept (name, start) bucket
 
+-- what is kept of a batch is stored as the tuple of its fields
 abbrev pub bucket_code : Coded Bucket
 bucket_code =
     code_by (ℕ × (ℕ × (List ℕ × (Option (List ℕ) × Bool)))) (coded× coded_ℕ (coded× coded_ℕ (coded× (coded_list coded_ℕ) (coded× (coded_option (coded_list coded_ℕ)) coded_bool))))
     (λ b. (b.reports, (b.rejected, (b.checksum, (b.sum, b.closed)))))
     (λ p. record { reports = p.0; rejected = p.1.0; checksum = p.1.1.0; sum = p.1.1.1.0; closed = p.1.1.1.1 }) (λ _. refl)
 
+-- how all batches are stored
 abbrev pub kept_code : Coded Kept
 kept_code = map.code (coded× (coded_list coded_ℕ) coded_ℕ) bucket_code

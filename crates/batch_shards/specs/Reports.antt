@@ -12,9 +12,11 @@ pub record Report : Type 0 where
   pub id : List ℕ
   pub out : List ℕ
 
+-- the identifiers of reports
 abbrev pub ids : List Report → List (List ℕ)
 ids reports = map (λ r. r.id) reports
 
+-- the out shares of reports
 abbrev pub outs : List Report → List (List ℕ)
 outs reports = map (λ r. r.out) reports
 

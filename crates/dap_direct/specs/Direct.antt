@@ -18,9 +18,11 @@ use Rattle.dap_direct.specs.declared.state.Batch.{Batch}
 use Rattle.dap_direct.specs.declared.state.Direct.{Direct}
 use Rattle.dap_direct.specs.declared.sums.Sums.{Sums}
 
+-- a batch by its task and start
 abbrev pub plain_batch : Batch → PlainBatch
 plain_batch b = record { task = b.task; start = b.start }
 
+-- batches so, in order
 abbrev pub plain_batches : List Batch → List PlainBatch
 plain_batches batches = map plain_batch batches
 

@@ -31,6 +31,7 @@ change_of (Wrote at bytes) = Written at bytes.items ∷ []
 change_of (Cut len) = CutTo len ∷ []
 change_of (Settled image) = []
 
+-- the changes that calls are, in order
 abbrev pub changes_of : List Event → List Change
 changes_of events = flat_map change_of events
 
@@ -39,6 +40,7 @@ pub record State : Type 0 where
   pub synced : List ℕ
   pub pending : List Change
 
+-- what a rule leaves of all that waits for a sync
 abbrev pub left_by : Image → State → List ℕ
 left_by image s = puts image s.pending s.synced
 
@@ -48,6 +50,7 @@ after s (Wrote at bytes) = record { synced = s.synced; pending = s.pending ++ Wr
 after s (Cut len) = record { synced = s.synced; pending = s.pending ++ CutTo len ∷ [] }
 after s (Settled image) = record { synced = left_by image s; pending = [] }
 
+-- the state after calls, one after another
 abbrev pub replay : State → List Event → State
 replay s [] = s
 replay s (e ∷ later) = replay (after s e) later

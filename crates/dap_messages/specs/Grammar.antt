@@ -28,6 +28,7 @@ abbrev pub accepted : {B : Type 0} → ℕ → Reading → Option B → Result (
 accepted len r None = Err r.place
 accepted len r (Some y) = Ok (y, past len r)
 
+-- a field of so many bytes: what stands next where they are left, and what it means
 abbrev pub field : {A B : Type 0} → ℕ → (A → Option B) → Reading → Option A → Result (B × Reading) ℕ
 field len meaning r None = Err (length r.input)
 field len meaning r (Some x) = accepted len r (meaning x)
@@ -114,11 +115,12 @@ shaped to from g = record {
   most = g.most;
 }
 
--- the spelling, and the test, of what there may be
+-- the spelling of what there may be
 abbrev pub spell_some : {A : Type 0} → Grammar A → Option A → List ℕ
 spell_some g None = []
 spell_some g (Some x) = g.spell x
 
+-- the test of what there may be
 abbrev pub allowed_some : {A : Type 0} → Grammar A → Option A → Bool
 allowed_some g None = false
 allowed_some g (Some x) = g.allowed x
@@ -156,14 +158,17 @@ abbrev pub read_chosen : {A : Type 0} → Reading → Option (Grammar A) → Res
 read_chosen r None = Err r.place
 read_chosen r (Some g) = g.read (past 1 r)
 
+-- the first byte chooses, unless none is left
 abbrev pub read_by : {A : Type 0} → (ℕ → Option (Grammar A)) → Reading → Option ℕ → Result (A × Reading) ℕ
 read_by choose r None = Err (length r.input)
 read_by choose r (Some first) = read_chosen r (choose first)
 
+-- the spelling by what was chosen
 abbrev pub spell_chosen : {A : Type 0} → Option (Grammar A) → A → List ℕ
 spell_chosen None x = []
 spell_chosen (Some g) x = g.spell x
 
+-- the test by what was chosen
 abbrev pub allowed_chosen : {A : Type 0} → Option (Grammar A) → A → Bool
 allowed_chosen None x = false
 allowed_chosen (Some g) x = g.allowed x
@@ -193,9 +198,11 @@ abbrev pub items_at : {B : Type 0} → Grammar B → Option (List ℕ) → ℕ �
 items_at g last zero r = Ok ([], r)
 items_at g last (suc n) r = (item g last).read r >>= λ x. items_at g (Some x.0.id) n x.1 >>= λ more. Ok (x.0 ∷ more.0, more.1)
 
+-- the items, one after another
 abbrev pub spell_items : {B : Type 0} → Grammar B → List (Tagged B) → List ℕ
 spell_items g xs = flat_map (item g None).spell xs
 
+-- each item is allowed, with its identifier above the one before it
 abbrev pub allowed_items : {B : Type 0} → Grammar B → Option (List ℕ) → List (Tagged B) → Bool
 allowed_items g last [] = true
 allowed_items g last (x ∷ xs) = (item g last).allowed x && allowed_items g (Some x.id) xs

@@ -43,6 +43,7 @@ pub bind_ok : {A B : Type 0} (r : Result A ℕ) (f : A → Result B ℕ) (y : B)
 bind_ok (Ok x) f y e = (x, refl, e)
 bind_ok (Err d) f y e = absurd cc
 
+-- a value as a result
 abbrev pub done : {A : Type 0} → A → Result A ℕ
 done x = Ok x
 

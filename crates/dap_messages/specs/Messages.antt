@@ -17,6 +17,7 @@ use Rattle.dap_messages.specs.Forms.{any_u32, time, identifier, checksum, job, h
 abbrev pub report_fields : Grammar (List ℕ × (List ℕ × (ℕ × (List ℕ × (List ℕ × List ℕ)))))
 report_fields = name ⊗ identifier ⊗ time ⊗ fixed (number w16 0 0) 0 (bytes 32000 ⊗ bytes 131072 ⊗ bytes 32000)
 
+-- a report
 abbrev pub report : Grammar Report
 report =
     shaped (λ p. record { name = p.0; id = p.1.0; time = p.1.1.0; public = p.1.1.1.0; leader = p.1.1.1.1.0; helper = p.1.1.1.1.1 })
@@ -31,6 +32,7 @@ init_req_of (ContResp j xs) = None
 init_req_of (ShareReq n s c check) = None
 init_req_of (ShareResp n s r) = None
 
+-- the leader begins a job
 abbrev pub init_req : Grammar Message
 init_req = variant (λ p. InitReq p.0 p.1.0 p.1.1) init_req_of (job ⊗ name ⊗ items half)
 
@@ -43,9 +45,11 @@ init_resp_of (ContResp j xs) = None
 init_resp_of (ShareReq n s c check) = None
 init_resp_of (ShareResp n s r) = None
 
+-- the helper's first steps for a job
 abbrev pub init_resp : Grammar Message
 init_resp = variant (λ p. InitResp p.0 p.1) init_resp_of (job ⊗ items step)
 
+-- job, and a step for each report
 abbrev pub cont_req_of : Message → Option (JobNo × List (Tagged Step))
 cont_req_of (InitReq j n hs) = None
 cont_req_of (InitResp j xs) = None
@@ -54,6 +58,7 @@ cont_req_of (ContResp j xs) = None
 cont_req_of (ShareReq n s c check) = None
 cont_req_of (ShareResp n s r) = None
 
+-- the leader's part of a job
 abbrev pub cont_req : Grammar Message
 cont_req = variant (λ p. ContReq p.0 p.1) cont_req_of (job ⊗ items step)
 
@@ -66,6 +71,7 @@ cont_resp_of (ContResp j xs) = Some (j, xs)
 cont_resp_of (ShareReq n s c check) = None
 cont_resp_of (ShareResp n s r) = None
 
+-- the outcomes of a job
 abbrev pub cont_resp : Grammar Message
 cont_resp = variant (λ p. ContResp p.0 p.1) cont_resp_of (job ⊗ items status)
 
@@ -78,6 +84,7 @@ share_req_of (ContResp j xs) = None
 share_req_of (ShareReq n s c check) = Some (n, (s, (c, check)))
 share_req_of (ShareResp n s r) = None
 
+-- the leader asks for the helper's share of a batch
 abbrev pub share_req : Grammar Message
 share_req = variant (λ p. ShareReq p.0 p.1.0 p.1.1.0 p.1.1.1) share_req_of (name ⊗ time ⊗ any_u32 ⊗ checksum)
 
@@ -90,9 +97,11 @@ share_resp_of (ContResp j xs) = None
 share_resp_of (ShareReq n s c check) = None
 share_resp_of (ShareResp n s r) = Some (n, (s, r))
 
+-- the helper's answer for a batch
 abbrev pub share_resp : Grammar Message
 share_resp = variant (λ p. ShareResp p.0 p.1.0 p.1.1) share_resp_of (name ⊗ time ⊗ reply)
 
+-- the first byte of a message
 abbrev pub first_of_message : Message → ℕ
 first_of_message (InitReq j n hs) = 1
 first_of_message (InitResp j xs) = 2

@@ -10,6 +10,7 @@ abbrev pub file_in : List (String Global × Vec ℕ Global) → List ℕ → Opt
 file_in [] name = None
 file_in (file ∷ more) name = if bytes_eq (string_bytes file.0) name then Some file.1.items else file_in more name
 
+-- the same for files in memory
 abbrev pub file_of : MemFiles → List ℕ → Option (List ℕ)
 file_of f name = file_in f.files.items name
 

@@ -62,6 +62,7 @@ check_outcome (Err refusal) = record { status = TasksRefused refusal.task refusa
 
 -- ---- each work
 
+-- how a work ends
 abbrev pub outcome_of : Work → Outcome
 outcome_of (Scripted file script) = script_outcome (given_tasks file) script
 outcome_of (Checked file) = check_outcome (tasks_of file)

@@ -62,6 +62,7 @@ restart_of fields = if nat_eq (length fields) 1 then (do
   node ← node_of (word fields 0)
   Some (Restart node)) else None
 
+-- the line of a keyword with the words behind it
 abbrev pub fields_of : List ℕ → List (List ℕ) → Option Line
 fields_of keyword fields =
     if bytes_eq keyword (codes "task") then task_of fields

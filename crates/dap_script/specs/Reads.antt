@@ -5,6 +5,7 @@ use Rattle.dap_script.specs.declared.line.Line.{Line}
 use Rattle.dap_script.specs.declared.fault.ScriptFault.{ScriptFault}
 use Rattle.dap_script.specs.declared.fault.ScriptFault.TheVariants.{Refused, NoMemory}
 
+-- the number of the line that a fault names, which want of memory has none of
 abbrev pub Fails : ScriptFault → Result (List Line) ℕ → Type 0
 Fails (Refused line) read = read ≡ Err line
 Fails NoMemory read = Unit {0}

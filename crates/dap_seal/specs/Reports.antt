@@ -38,10 +38,11 @@ item_of f t r = leader_item f (opened_report t r)
 abbrev pub verdict_of : Functions → PlainTask → Report → Verdict
 verdict_of f t r = verdict f (opened_report t r)
 
--- the content of a report, if its verdict is ok: as bytes, and as numbers
+-- the content of a report as bytes, if its verdict is ok
 abbrev pub content_bytes_of : Functions → PlainTask → Report → Option (List ℕ)
 content_bytes_of f t r = content_of f (verdict_of f t r)
 
+-- the same as numbers
 abbrev pub content_numbers_of : Functions → PlainTask → Report → Option (List ℕ)
 content_numbers_of f t r = numbers_of f (verdict_of f t r)
 

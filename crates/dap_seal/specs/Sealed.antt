@@ -40,10 +40,11 @@ tagged keys role head ciphertext = ciphertext ++ tag_by keys role head ciphertex
 abbrev pub sealed_by : SealKeys → Role → Head → List ℕ → List ℕ
 sealed_by keys role head plain = tagged keys role head (covered_by keys role head.id plain)
 
--- the bytes before the last 16, and those
+-- the bytes before the last 16
 abbrev pub ciphertext_of : List ℕ → List ℕ
 ciphertext_of sealed = take (length sealed - 16) sealed
 
+-- the last 16 bytes
 abbrev pub given_tag : List ℕ → List ℕ
 given_tag sealed = drop (length sealed - 16) sealed
 

@@ -14,6 +14,7 @@ pub record Refusal : Type 0 where
   pub task : ℕ
   pub field : List ℕ
 
+-- what f makes of a value that is there, and the refusal where there is none
 infixl 10 ◌>>=◌
 abbrev pub ◌>>=◌ : {A B E : Type 0} → Result A E → (A → Result B E) → Result B E
 Ok x >>= f = f x

@@ -10,6 +10,7 @@ use Rattle.dap_messages.specs.Forms.{any_u64}
 abbrev pub passed : {A : Type 0} → ℕ → Bool → A × Reading → Result (A × Reading) ℕ
 passed at holds x = if holds then Ok x else Err at
 
+-- a grammar of the values that pass a further test
 abbrev pub restricted : {A : Type 0} → (A → Bool) → Grammar A → Grammar A
 restricted test g = record {
   read = λ r. g.read r >>= λ x. passed r.place (test x.0) x;
@@ -32,9 +33,11 @@ abbrev pub bounds_at : Option ℕ → ℕ → Reading → Result (List ℕ × Re
 bounds_at last zero r = Ok ([], r)
 bounds_at last (suc n) r = (bound last).read r >>= λ x. bounds_at (Some x.0) n x.1 >>= λ more. Ok (x.0 ∷ more.0, more.1)
 
+-- the bounds, one after another
 abbrev pub spell_bounds : List ℕ → List ℕ
 spell_bounds xs = flat_map (to_be_bytes w64) xs
 
+-- each bound is above the one before it
 abbrev pub allowed_bounds : Option ℕ → List ℕ → Bool
 allowed_bounds last [] = true
 allowed_bounds last (x ∷ xs) = (bound last).allowed x && allowed_bounds (Some x) xs

@@ -37,6 +37,7 @@ abbrev pub leader_answers : List ℕ → ℕ → Record → Bool
 leader_answers n s (LeaderAnswer name start a) = bytes_eq name n && start == s
 leader_answers n s _ = false
 
+-- the record may follow in the journal of the leader's front
 abbrev pub leader_front_may : Record → List Record → Bool
 leader_front_may (LeaderFrontOpen lanes) earlier = has_lanes lanes earlier
 leader_front_may (LeaderTask t) earlier = not (list_any (stores t.name) earlier)
@@ -60,6 +61,7 @@ abbrev pub is_reached : ℕ → Option ℕ → Bool
 is_reached count None = false
 is_reached count (Some minimum) = nat_le minimum count
 
+-- the answer has a share
 abbrev pub is_share : Reply → Bool
 is_share (Share share) = true
 is_share (Small total) = false
@@ -70,11 +72,13 @@ abbrev pub helper_answers : List ℕ → ℕ → Record → Bool
 helper_answers n s (HelperAnswer q a) = bytes_eq q.name n && q.start == s
 helper_answers n s _ = false
 
+-- the helper's Answer may follow
 abbrev pub may_answer : Request → Response → List Record → Bool
 may_answer q a earlier =
     is_reached q.count (last_minimum q.name earlier) && bytes_eq a.name q.name && a.start == q.start && is_share a.reply
     && not (list_any (helper_answers q.name q.start) earlier)
 
+-- the record may follow in the journal of the helper's front
 abbrev pub helper_front_may : Record → List Record → Bool
 helper_front_may (HelperFrontOpen lanes) earlier = has_lanes lanes earlier
 helper_front_may (HelperTask t) earlier = true

@@ -27,6 +27,7 @@ lanes_in (LeaderFrontOpen lanes) = Some lanes
 lanes_in (HelperFrontOpen lanes) = Some lanes
 lanes_in _ = None
 
+-- one more where there is a value
 abbrev pub count_some : {A : Type 0} → Option A → ℕ → ℕ
 count_some None n = n
 count_some (Some x) n = suc n

@@ -12,6 +12,7 @@ use Rattle.lane_records.specs.History.{lanes_in}
 
 -- ---- Opens
 
+-- the record is an Open
 abbrev pub is_open : Record → Bool
 is_open x = is_some (lanes_in x)
 
@@ -20,6 +21,7 @@ abbrev pub is_none_but : ℕ → Option ℕ → Bool
 is_none_but lanes None = true
 is_none_but lanes (Some n) = n == lanes
 
+-- 1 to 16 lanes, as in each Open before
 abbrev pub has_lanes : ℕ → List Record → Bool
 has_lanes lanes earlier = nat_le 1 lanes && nat_le lanes 16 && list_all (λ x. is_none_but lanes (lanes_in x)) earlier
 
@@ -28,11 +30,13 @@ abbrev pub puts_into : ℕ → List ℕ → Option ℕ → Bool
 puts_into lane id None = false
 puts_into lane id (Some lanes) = nat_lt 0 lanes && lane_number id lanes == lane
 
+-- an Open before puts the identifier into this lane
 abbrev pub is_of_lane : ℕ → List ℕ → List Record → Bool
 is_of_lane lane id earlier = list_any (λ x. puts_into lane id (lanes_in x)) earlier
 
 -- ---- jobs and items
 
+-- the two numbers are one job's
 abbrev pub same_job : JobNo → JobNo → Bool
 same_job a b = a.lane == b.lane && a.incarnation == b.incarnation && a.counter == b.counter
 

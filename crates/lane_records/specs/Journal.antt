@@ -12,10 +12,11 @@ use Rattle.lane_records.specs.Records.{record_}
 abbrev pub bytes_of : List (Vec ℕ Global) → List (List ℕ)
 bytes_of texts = map (λ t. t.items) texts
 
--- each record has a spelling; their spellings
+-- each record has a spelling
 abbrev pub are_allowed : List Record → Bool
 are_allowed xs = list_all record_.allowed xs
 
+-- the spelling of each record
 abbrev pub spell_all : List Record → List (List ℕ)
 spell_all xs = map record_.spell xs
 

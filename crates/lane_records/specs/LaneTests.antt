@@ -48,11 +48,13 @@ leader_closes n s _ = false
 abbrev pub is_waiting : List ℕ → List Record → Tagged Step → Bool
 is_waiting n earlier x = list_any (accepts n x.id) earlier && not (list_any (continues_report n x.id) earlier)
 
+-- a Continue may follow: of a new job of this lane and incarnation, with reports that wait for one
 abbrev pub may_continue : ℕ → List ℕ → JobNo → List (Tagged Step) → List Record → Bool
 may_continue lane n j xs earlier =
     j.lane == lane && j.incarnation == count_by is_open earlier && not (list_any (continues_job j) earlier)
     && list_all (is_waiting n earlier) xs
 
+-- the record may follow in the journal of a leader's lane
 abbrev pub leader_lane_may : ℕ → Record → List Record → Bool
 leader_lane_may lane (LeaderOpen lanes own) earlier = has_lanes lanes earlier && own == lane && nat_lt lane lanes
 leader_lane_may lane (Accept r) earlier = is_of_lane lane r.id earlier && not (list_any (accepts r.name r.id) earlier)
@@ -78,6 +80,7 @@ abbrev pub commits_job : JobNo → Record → Bool
 commits_job j (Commit job outs) = same_job job j
 commits_job j _ = false
 
+-- the outcome is finished
 abbrev pub is_finished : Outcome → Bool
 is_finished (Finished out) = true
 is_finished (Failed c) = false
@@ -91,6 +94,7 @@ abbrev pub commits_report : List ℕ → List ℕ → List Record → Record →
 commits_report n id earlier (Commit job outs) = finishes id outs && list_any (starts_under n job) earlier
 commits_report n id earlier _ = false
 
+-- the report of this name and identifier was finished
 abbrev pub was_finished : List ℕ → List ℕ → List Record → Bool
 was_finished n id earlier = list_any (commits_report n id earlier) earlier
 
@@ -108,9 +112,11 @@ abbrev pub helper_closes : List ℕ → ℕ → Record → Bool
 helper_closes n s (HelperClose name start c) = bytes_eq name n && start == s
 helper_closes n s _ = false
 
+-- a Start may follow: of a new job of this lane, with identifiers of the lane
 abbrev pub may_start : ℕ → JobNo → List (Tagged Half) → List Record → Bool
 may_start lane j hs earlier = j.lane == lane && list_all (λ x. is_of_lane lane x.id earlier) hs && not (list_any (starts_job j) earlier)
 
+-- the record may follow in the journal of a helper's lane
 abbrev pub helper_lane_may : ℕ → Record → List Record → Bool
 helper_lane_may lane (HelperOpen lanes own) earlier = has_lanes lanes earlier && own == lane && nat_lt lane lanes
 helper_lane_may lane (Start j n hs) earlier = may_start lane j hs earlier

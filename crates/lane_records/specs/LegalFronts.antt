@@ -34,6 +34,7 @@ LeaderFrontMay _ old = ⊥
 
 -- ---- the helper's front
 
+-- the task that the record stores, if it is of this name
 abbrev pub task_of_name : List ℕ → Record → Option StoredTask
 task_of_name n (HelperTask t) = if bytes_eq t.name n then Some t else None
 task_of_name n _ = None

@@ -59,118 +59,151 @@ exchange = request ⊗ response
 
 -- ---- records
 
+-- the number of lanes and the lane of a leader lane's Open
 abbrev pub leader_open_of : Record → Option (ℕ × ℕ)
 leader_open_of (LeaderOpen lanes lane) = Some (lanes, lane)
 leader_open_of _ = None
 
+-- a leader lane's Open
 abbrev pub leader_open : Grammar Record
 leader_open = variant (λ p. LeaderOpen p.0 p.1) leader_open_of lane_open
 
+-- the report of an Accept
 abbrev pub accept_of : Record → Option Report
 accept_of (Accept r) = Some r
 accept_of _ = None
 
+-- an Accept
 abbrev pub accept : Grammar Record
 accept = variant Accept accept_of report
 
+-- name, job and steps of a Continue
 abbrev pub continue_of : Record → Option (List ℕ × (JobNo × List (Tagged Step)))
 continue_of (Continue n j xs) = Some (n, (j, xs))
 continue_of _ = None
 
+-- a Continue
 abbrev pub continue_ : Grammar Record
 continue_ = variant (λ p. Continue p.0 p.1.0 p.1.1) continue_of continue_fields
 
+-- job and outcomes of a Finish
 abbrev pub finish_of : Record → Option (JobNo × List (Tagged Outcome))
 finish_of (Finish j outs) = Some (j, outs)
 finish_of _ = None
 
+-- a Finish
 abbrev pub finish : Grammar Record
 finish = variant (λ p. Finish p.0 p.1) finish_of outcomes
 
+-- name, start and numbers of a leader lane's Close
 abbrev pub leader_close_of : Record → Option (List ℕ × (ℕ × Closed))
 leader_close_of (LeaderClose n s c) = Some (n, (s, c))
 leader_close_of _ = None
 
+-- a leader lane's Close
 abbrev pub leader_close : Grammar Record
 leader_close = variant (λ p. LeaderClose p.0 p.1.0 p.1.1) leader_close_of close_fields
 
+-- the number of lanes and the lane of a helper lane's Open
 abbrev pub helper_open_of : Record → Option (ℕ × ℕ)
 helper_open_of (HelperOpen lanes lane) = Some (lanes, lane)
 helper_open_of _ = None
 
+-- a helper lane's Open
 abbrev pub helper_open : Grammar Record
 helper_open = variant (λ p. HelperOpen p.0 p.1) helper_open_of lane_open
 
+-- job, name and halves of a Start
 abbrev pub start_of : Record → Option (JobNo × (List ℕ × List (Tagged Half)))
 start_of (Start j n hs) = Some (j, (n, hs))
 start_of _ = None
 
+-- a Start
 abbrev pub start : Grammar Record
 start = variant (λ p. Start p.0 p.1.0 p.1.1) start_of start_fields
 
+-- job and outcomes of a Commit
 abbrev pub commit_of : Record → Option (JobNo × List (Tagged Outcome))
 commit_of (Commit j outs) = Some (j, outs)
 commit_of _ = None
 
+-- a Commit
 abbrev pub commit : Grammar Record
 commit = variant (λ p. Commit p.0 p.1) commit_of outcomes
 
+-- name, start and numbers of a helper lane's Close
 abbrev pub helper_close_of : Record → Option (List ℕ × (ℕ × Closed))
 helper_close_of (HelperClose n s c) = Some (n, (s, c))
 helper_close_of _ = None
 
+-- a helper lane's Close
 abbrev pub helper_close : Grammar Record
 helper_close = variant (λ p. HelperClose p.0 p.1.0 p.1.1) helper_close_of close_fields
 
+-- the number of lanes of the leader's front's Open
 abbrev pub leader_front_open_of : Record → Option ℕ
 leader_front_open_of (LeaderFrontOpen lanes) = Some lanes
 leader_front_open_of _ = None
 
+-- the Open of the leader's front
 abbrev pub leader_front_open : Grammar Record
 leader_front_open = variant LeaderFrontOpen leader_front_open_of front_open
 
+-- the task of the leader's Task
 abbrev pub leader_task_of : Record → Option StoredTask
 leader_task_of (LeaderTask t) = Some t
 leader_task_of _ = None
 
+-- the leader's Task
 abbrev pub leader_task : Grammar Record
 leader_task = variant LeaderTask leader_task_of stored
 
+-- name and start of an Ask
 abbrev pub ask_of : Record → Option (List ℕ × ℕ)
 ask_of (Ask n s) = Some (n, s)
 ask_of _ = None
 
+-- an Ask
 abbrev pub ask : Grammar Record
 ask = variant (λ p. Ask p.0 p.1) ask_of ask_fields
 
+-- name, start and answer of the leader's Answer
 abbrev pub leader_answer_of : Record → Option (List ℕ × (ℕ × Answered))
 leader_answer_of (LeaderAnswer n s a) = Some (n, (s, a))
 leader_answer_of _ = None
 
+-- the leader's Answer
 abbrev pub leader_answer : Grammar Record
 leader_answer = variant (λ p. LeaderAnswer p.0 p.1.0 p.1.1) leader_answer_of answer_fields
 
+-- the number of lanes of the helper's front's Open
 abbrev pub helper_front_open_of : Record → Option ℕ
 helper_front_open_of (HelperFrontOpen lanes) = Some lanes
 helper_front_open_of _ = None
 
+-- the Open of the helper's front
 abbrev pub helper_front_open : Grammar Record
 helper_front_open = variant HelperFrontOpen helper_front_open_of front_open
 
+-- the task of the helper's Task
 abbrev pub helper_task_of : Record → Option StoredTask
 helper_task_of (HelperTask t) = Some t
 helper_task_of _ = None
 
+-- the helper's Task
 abbrev pub helper_task : Grammar Record
 helper_task = variant HelperTask helper_task_of stored
 
+-- request and response of the helper's Answer
 abbrev pub helper_answer_of : Record → Option (Request × Response)
 helper_answer_of (HelperAnswer q a) = Some (q, a)
 helper_answer_of _ = None
 
+-- the helper's Answer
 abbrev pub helper_answer : Grammar Record
 helper_answer = variant (λ p. HelperAnswer p.0 p.1) helper_answer_of exchange
 
+-- the first byte of a record
 abbrev pub first_of_record : Record → ℕ
 first_of_record (LeaderOpen lanes lane) = 1
 first_of_record (Accept r) = 2

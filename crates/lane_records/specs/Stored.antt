@@ -15,14 +15,17 @@ use Rattle.lane_records.specs.Bounds.{bounds}
 
 -- ---- outcomes
 
+-- the out share of a finished report
 abbrev pub out_of : Outcome → Option (List ℕ)
 out_of (Finished share) = Some share
 out_of (Failed c) = None
 
+-- the code of a failed one
 abbrev pub code_in : Outcome → Option Code
 code_in (Finished share) = None
 code_in (Failed c) = Some c
 
+-- the first byte of an outcome
 abbrev pub first_of_outcome : Outcome → ℕ
 first_of_outcome (Finished share) = 1
 first_of_outcome (Failed c) = 2
@@ -33,6 +36,7 @@ outcome_by b =
     if b == 1 then Some (variant Finished out_of (bytes 16384)) else
     (if b == 2 then Some (variant Failed code_in code) else None)
 
+-- an outcome by its first byte
 abbrev pub outcome : Grammar Outcome
 outcome = by_first first_of_outcome outcome_by 16388
 
@@ -46,21 +50,25 @@ closed =
 
 -- ---- tasks
 
+-- that a kind is a count
 abbrev pub counts_of : Kind → Option (Unit {0})
 counts_of Count = Some tt
 counts_of (Sum bits) = None
 counts_of (Histogram bs) = None
 
+-- the bits of a sum
 abbrev pub bits_of : Kind → Option ℕ
 bits_of Count = None
 bits_of (Sum bits) = Some bits
 bits_of (Histogram bs) = None
 
+-- the bounds of a histogram
 abbrev pub bounds_of : Kind → Option (List ℕ)
 bounds_of Count = None
 bounds_of (Sum bits) = None
 bounds_of (Histogram bs) = Some bs
 
+-- the byte of a kind
 abbrev pub first_of_kind : Kind → ℕ
 first_of_kind Count = 0
 first_of_kind (Sum bits) = 1
@@ -73,6 +81,7 @@ kind_by b =
     (if b == 1 then Some (variant Sum bits_of (byte 1 64)) else
     (if b == 2 then Some (variant Histogram bounds_of bounds) else None))
 
+-- a kind by its byte
 abbrev pub kind : Grammar Kind
 kind = by_first first_of_kind kind_by 505
 

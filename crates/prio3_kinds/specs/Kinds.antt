@@ -16,10 +16,11 @@ use Rattle.vdaf_api.specs.Functions.{Functions}
 use Rattle.prio3_share.specs.Base.{Base, base_of}
 use Rattle.prio3_share.specs.Functions.{functions_of}
 
--- the field of counts, and that of sums and histograms
+-- the field of counts
 abbrev pub base64 : Base Field64
 base64 = base_of ring_of half_element root_of_log number_of residue_of modulus 8
 
+-- the field of sums and histograms
 abbrev pub base128 : Base Field128
 base128 = base_of wide.ring_of wide.half_element wide.root_of_log wide.number_of wide.residue_of wide_modulus.modulus 16
 
@@ -29,7 +30,7 @@ answer_of Count v = answer.Count (slice_index_or v 0 0)
 answer_of (Sum bits) v = answer.Sum (slice_index_or v 0 0)
 answer_of (Histogram bounds) v = answer.Histogram v
 
--- the kind byte is 0, 1 or 2
+-- what the function of a kind computes; the kind byte is 0, 1 or 2
 abbrev pub functions_of_kind : Kind → Functions
 functions_of_kind Count = functions_of base64 (count_shape ring_of) 0 (answer_of Count)
 functions_of_kind (Sum bits) = functions_of base128 (sum_shape wide.ring_of bits) 1 (answer_of (Sum bits))

@@ -21,6 +21,7 @@ kind_is (Count c) = tt
 kind_is (Sum c) = (c.some_bits, c.few_bits)
 kind_is (Histogram c) = record { some = c.some_bound; few = c.few_bounds; ascending = c.ascending }
 
+-- what a value of Prio3 computes: the function of its kind
 abbrev pub functions_of_value : Prio3 → Functions
 functions_of_value v = functions_of_kind (kind_of v)
 

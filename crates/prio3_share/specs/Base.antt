@@ -3,6 +3,7 @@ use Rattle.std.specs.Prelude.{◌≡◌, ℕ, ◌^◌, ◌≤◌, Bool, nat_eq}
 use Rattle.field_laws.specs.Ring.{Ring, RingLaws, RootLaws}
 use Rattle.field_laws.specs.Residues.{Residues, residue_ring}
 
+-- what a field is made of, as one value
 pub record Base (F : Type 0) : Type 0 where
   -- zero, one, sums, negatives and products
   pub ring : Ring F

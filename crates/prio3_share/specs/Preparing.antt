@@ -30,11 +30,12 @@ pub record Started : Type 0 where
   pub out : List ℕ
   pub message : List ℕ
 
--- the leader's part, and the helper's: the own one is made, the other one taken from the public share
+-- the leader's part: the own one is made, the other one taken from the public share
 abbrev pub leader_part_for : Role → List ℕ → List ℕ → List ℕ
 leader_part_for Leader own public = own
 leader_part_for Helper own public = take 16 public
 
+-- the helper's part, likewise
 abbrev pub helper_part_for : Role → List ℕ → List ℕ → List ℕ
 helper_part_for Leader own public = drop 16 public
 helper_part_for Helper own public = own
@@ -44,13 +45,15 @@ abbrev pub finish : Started → List ℕ → Option (List ℕ)
 finish s message = when (bytes_eq message s.message) (Some s.out)
 
 module _ {F : Type 0} (b : Base F) (c : Shape F) (kind : ℕ) where
-  -- how many bytes a half of the input, a half of the proof and a verifier share have
+  -- how many bytes a half of the input has
   abbrev pub x_bytes : ℕ
   x_bytes = c.input_len * b.width
 
+  -- how many bytes a half of the proof has
   abbrev pub proof_bytes : ℕ
   proof_bytes = proof_len c * b.width
 
+  -- how many bytes a verifier share has
   abbrev pub verifier_bytes : ℕ
   verifier_bytes = (c.arity + 2) * b.width
 
@@ -71,9 +74,11 @@ module _ {F : Type 0} (b : Base F) (c : Shape F) (kind : ℕ) where
   abbrev pub own_part : Role → List ℕ → Half F → List ℕ
   own_part role id h = part b kind role id h.blind h.x
 
+  -- the leader's part, as a half of this role knows it
   abbrev pub left_part : Role → List ℕ → List ℕ → Half F → List ℕ
   left_part role id public h = leader_part_for role (own_part role id h) public
 
+  -- the helper's part, as a half of this role knows it
   abbrev pub right_part : Role → List ℕ → List ℕ → Half F → List ℕ
   right_part role id public h = helper_part_for role (own_part role id h) public
 
@@ -141,5 +146,6 @@ module _ {F : Type 0} (b : Base F) (c : Shape F) (kind : ℕ) where
   is_some_point (Some t) = true
   is_some_point None = false
 
+  -- whether a report of this identifier can be prepared under the verify key
   abbrev pub is_fair : List ℕ → List ℕ → Bool
   is_fair verify id = is_some_point (point_of verify id)

@@ -37,10 +37,11 @@ module _ {F : Type 0} (b : Base F) (c : Shape F) (kind : ℕ) where
       drawn_for b kind keys.wires WireSeeds [] c.arity >>= λ wire_seeds.
       halved b kind keys.proof HelperProof (proof_len c) (whole_proof b c kind x wire_seeds)
 
-  -- the parts of both halves of the input
+  -- the part of the leader's half of the input
   abbrev pub left : List ℕ → SeedKeys → Halved F → List ℕ
   left id keys input = part b kind Leader id keys.leader_blind input.leader
 
+  -- the part of the helper's half of the input
   abbrev pub right : List ℕ → SeedKeys → Halved F → List ℕ
   right id keys input = part b kind Helper id keys.helper_blind input.helper
 

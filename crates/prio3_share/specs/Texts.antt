@@ -45,19 +45,23 @@ bytes_of b xs = spelled b.width (map b.number xs)
 abbrev pub key : ℕ → List ℕ → ℕ → List ℕ
 key kind seed i = take 16 (drop (16 * i) (bytes_for kind seed Keys [] 80))
 
--- in this order: the key of the helper's input, the key of its proof, the key of the wire seeds, and both blinds
+-- the key of the helper's input
 abbrev pub input_key : ℕ → List ℕ → List ℕ
 input_key kind seed = key kind seed 0
 
+-- the key of the helper's proof
 abbrev pub proof_key : ℕ → List ℕ → List ℕ
 proof_key kind seed = key kind seed 1
 
+-- the key of the wire seeds
 abbrev pub wire_key : ℕ → List ℕ → List ℕ
 wire_key kind seed = key kind seed 2
 
+-- the leader's blind
 abbrev pub leader_blind : ℕ → List ℕ → List ℕ
 leader_blind kind seed = key kind seed 3
 
+-- the helper's blind
 abbrev pub helper_blind : ℕ → List ℕ → List ℕ
 helper_blind kind seed = key kind seed 4
 

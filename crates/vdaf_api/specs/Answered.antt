@@ -8,6 +8,7 @@ use Rattle.vdaf_api.specs.declared.fault.PrepFault.{PrepFault}
 use Rattle.vdaf_api.specs.declared.fault.PrepFault.TheVariants as prep
 use Rattle.vdaf_api.specs.Functions.{Parts}
 
+-- the shares as lists
 abbrev pub parts_of : Shares → Parts
 parts_of s = record { public = s.public; leader = s.leader; helper = s.helper }
 

@@ -16,6 +16,7 @@ pub record Parts : Type 0 where
   pub leader : List ℕ
   pub helper : List ℕ
 
+-- what a measurement function computes
 pub record Functions : Type 0 where
   -- how out shares are spelled
   pub space : Space

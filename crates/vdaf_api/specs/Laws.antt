@@ -7,11 +7,13 @@ use Rattle.vdaf_api.specs.Functions.{Functions, Parts}
 use Rattle.vdaf_api.specs.Vectors.{SpaceLaws, IsOut, Below, numbers}
 use Rattle.vdaf_api.specs.Verdict.{opened, verdict, numbers_of}
 
+-- no share is longer than a report has room for, the tags of both seals counted
 pub record PartsAreShort (parts : Parts) : Type 0 where
   pub public : length parts.public ≤ 32000
   pub leader : length parts.leader ≤ 131056
   pub helper : length parts.helper ≤ 31984
 
+-- what each measurement function keeps
 pub record FunctionLaws (f : Functions) : Type 0 where
   pub space : SpaceLaws f.space
   pub parts : (id : List ℕ) (m : ℕ) (seed : List ℕ) (p : Parts) → f.shard id m seed ≡ Some p → PartsAreShort p

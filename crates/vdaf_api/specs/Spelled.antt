@@ -66,6 +66,7 @@ vector_of-spelled p w (x ∷ xs) room h =
     let rest : drop w (low_bytes w x ++ spelled w xs) ≡ spelled w xs = ap (λ k. drop k (low_bytes w x ++ spelled w xs)) (sym len) ∙ drop-append_seam (low_bytes w x) (spelled w xs) in
     rw (first, rest, element_of-low p w x h.0 room, vector_of-spelled p w xs room h.1) refl
 
+-- what the bytes of a vector are
 pub record Spells (p w n : ℕ) (bs xs : List ℕ) : Type 0 where
   pub back : spelled w xs ≡ bs
   pub size : length xs ≡ n
@@ -123,6 +124,7 @@ element_of-here p w bs len small low =
     let c : nat_lt (from_low bs) p ≡ true = grind (arith, nat_tests) in
     rw (a, b, c) refl
 
+-- the first number of a vector, and what is behind it
 pub record FirstOf (p w n : ℕ) (bs : List ℕ) (xs : List ℕ) : Type 0 where
   pub x : ℕ
   pub rest : List ℕ

@@ -18,9 +18,11 @@ pub record Pair : Type 0 where
   pub leader : List ℕ
   pub helper : List ℕ
 
+-- the leader's out shares
 abbrev pub leaders : List Pair → List (List ℕ)
 leaders ps = map (λ p. p.leader) ps
 
+-- the helper's out shares
 abbrev pub helpers : List Pair → List (List ℕ)
 helpers ps = map (λ p. p.helper) ps
 

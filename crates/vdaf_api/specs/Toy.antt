@@ -8,12 +8,15 @@ use Rattle.vdaf_api.specs.declared.answer.Answer.TheVariants.{Sum}
 use Rattle.vdaf_api.specs.Functions.{Functions, Parts}
 use Rattle.vdaf_api.specs.Vectors.{when, vector}
 
+-- an out share is one number below 2 ^ 64, in 8 bytes
 abbrev pub toy_space : Space
 toy_space = record { modulus = 18446744073709551616; width = 8; size = 1 }
 
+-- no bytes
 abbrev pub is_empty : List ℕ → Bool
 is_empty bytes = nat_eq (length bytes) 0
 
+-- there is a vector
 abbrev pub some_vector : Option (List ℕ) → Bool
 some_vector (Some xs) = true
 some_vector None = false
@@ -22,30 +25,39 @@ some_vector None = false
 unfoldable pub is_toy : List ℕ → Bool
 is_toy bytes = some_vector (vector toy_space bytes)
 
+-- the helper's share: the number that the seed's first 8 bytes spell
 abbrev pub toy_helper : List ℕ → ℕ
 toy_helper seed = from_low (take 8 seed) % 18446744073709551616
 
+-- the leader's share: the measurement minus that
 abbrev pub toy_leader : ℕ → List ℕ → ℕ
 toy_leader m seed = (m + (18446744073709551616 - toy_helper seed)) % 18446744073709551616
 
+-- the shares of a measurement below 2 ^ 32, with an empty public share
 unfoldable pub toy_shard : List ℕ → ℕ → List ℕ → Option Parts
 toy_shard id m seed = when (nat_lt m 4294967296) (Some (record { public = []; leader = low_bytes 8 (toy_leader m seed); helper = low_bytes 8 (toy_helper seed) }))
 
+-- the prep share of a half, which is empty
 unfoldable pub toy_share : Role → List ℕ → List ℕ → List ℕ → List ℕ → Option (List ℕ)
 toy_share role key id public input = when (is_empty public && is_toy input) (Some [])
 
+-- the prep message, which is empty
 unfoldable pub toy_combine : List ℕ → List ℕ → Option (List ℕ)
 toy_combine leader helper = when (is_empty leader && is_empty helper) (Some [])
 
+-- the out share, where the message is the empty one
 unfoldable pub toy_finish : List ℕ → List ℕ → Option (List ℕ)
 toy_finish out message = when (is_empty message) (Some out)
 
+-- the out share of a half, which is its input share
 unfoldable pub toy_out : Role → List ℕ → List ℕ → List ℕ → List ℕ → List ℕ → Option (List ℕ)
 toy_out role key id public input message = when (is_empty public && is_toy input) (toy_finish input message)
 
+-- the measurement as a vector
 unfoldable pub toy_encoding : ℕ → Option (List ℕ)
 toy_encoding m = when (nat_lt m 4294967296) (Some (m ∷ []))
 
+-- what the toy function computes; every report is fair
 abbrev pub toy_functions : Functions
 toy_functions = record {
   space = toy_space;

@@ -11,6 +11,7 @@ abbrev pub when : {A : Type 0} → Bool → Option A → Option A
 when true o = o
 when false o = None
 
+-- a number below 256
 abbrev pub is_byte : ℕ → Bool
 is_byte b = nat_lt b 256
 
@@ -56,6 +57,7 @@ IsOut s bs = (xs : List ℕ) × (vector s bs ≡ Some xs)
 abbrev pub zero_share : Space → List ℕ
 zero_share s = spelled s.width (replicate s.size 0)
 
+-- the numbers that are there, or none
 abbrev pub numbers_in : Option (List ℕ) → List ℕ
 numbers_in (Some xs) = xs
 numbers_in None = []
@@ -64,6 +66,7 @@ numbers_in None = []
 abbrev pub numbers : Space → List ℕ → List ℕ
 numbers s bs = numbers_in (vector s bs)
 
+-- the bytes of the sum of two vectors, where both are there
 abbrev pub sum_in : Space → Option (List ℕ) → Option (List ℕ) → List ℕ
 sum_in s (Some xs) (Some ys) = spelled s.width (add_each s.modulus xs ys)
 sum_in s (Some xs) None = []

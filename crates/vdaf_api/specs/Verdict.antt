@@ -60,9 +60,11 @@ abbrev pub out_of : Functions → Role → Opened → Option (List ℕ) → List
 out_of f role r (Some input) message = f.out role r.key r.id r.public input message
 out_of f role r None message = None
 
+-- the helper's out share after a prep message
 abbrev pub helper_out : Functions → Opened → List ℕ → Option (List ℕ)
 helper_out f r message = out_of f Helper r r.helper message
 
+-- the leader's out share after a prep message
 abbrev pub leader_out : Functions → Opened → List ℕ → Option (List ℕ)
 leader_out f r message = out_of f Leader r r.leader message
 
@@ -71,23 +73,27 @@ pub data Verdict : Type 0 where
   ok : List ℕ → List ℕ → Verdict
   bad : ℕ → Verdict
 
+-- ok where both out shares are there, and else code 5
 abbrev pub both_outs : Option (List ℕ) → Option (List ℕ) → Verdict
 both_outs (Some leader) (Some helper) = ok leader helper
 both_outs (Some leader) None = bad 5
 both_outs None o = bad 5
 
+-- the verdict for a leader's item: its code, or what both out shares give
 abbrev pub verdict_after : Functions → Opened → Step → Verdict
 verdict_after f r (Continued message) = both_outs (leader_out f r message) (helper_out f r message)
 verdict_after f r (Failed code) = bad code
 
+-- the verdict on a report
 abbrev pub verdict : Functions → Opened → Verdict
 verdict f r = verdict_after f r (leader_item f r)
 
--- the content of a report, which is the sum of its out shares: as bytes, and as numbers
+-- the content of a report as bytes, which is the sum of its out shares
 abbrev pub content_of : Functions → Verdict → Option (List ℕ)
 content_of f (ok leader helper) = Some (plus f.space leader helper)
 content_of f (bad code) = None
 
+-- the content as numbers
 abbrev pub numbers_of : Functions → Verdict → Option (List ℕ)
 numbers_of f (ok leader helper) = Some (numbers f.space (plus f.space leader helper))
 numbers_of f (bad code) = None
