@@ -1,4 +1,4 @@
-// The state and the round keys as four words, and the rounds on them.
+//! The state and the round keys as four words, and the rounds on them.
 
 ghost use Rattle.std.specs.Prelude.{◌≡◌, ◌+◌, ◌≤◌, drop, take};
 ghost use Rattle.std.specs.Int.{w32, to_be_bytes};

@@ -1,3 +1,5 @@
+//! Keys and the encryption of a block.
+
 use crate::columns::{self, Columns};
 use crate::schedule::next_round_key;
 use std::marker::Model;
@@ -26,7 +28,7 @@ impl Key {
     ghost use Rattle.std.specs.Prelude.{◌≡◌};
     ghost use Rattle.aes_block.specs.Cipher.{encrypt};
 
-    /// Expands the key of these 16 bytes.
+    /// Expands the key of these 16 bytes. It takes no memory.
     pub fn new(key: [u8; 16]) -> Key
         ensures { result ≡ key }
     {
@@ -38,7 +40,7 @@ impl Key {
         Key { round_keys }
     }
 
-    /// The encryption of a block of 16 bytes (FIPS 197, section 5.1).
+    /// The encryption of a block of 16 bytes (FIPS 197, section 5.1). It takes no memory.
     pub fn encrypt(&self, block: [u8; 16]) -> [u8; 16]
         ensures { result ≡ encrypt self.now block }
     {

@@ -1,4 +1,4 @@
-// The key of a round from the one before it.
+//! The key of a round from the one before it.
 
 ghost use Rattle.std.specs.Prelude.{◌≡◌, ◌≤◌};
 ghost use Rattle.std.specs.Int.{w32, to_be_bytes};

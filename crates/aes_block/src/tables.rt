@@ -1,4 +1,4 @@
-// The tables of a round: SubBytes, and SubBytes with each column of the matrix of MixColumns.
+//! The tables of a round: SubBytes, and SubBytes with each column of the matrix of MixColumns.
 
 // Byte b after SubBytes.
 pub(crate) static SUBSTITUTED: [u8; 256] = [

@@ -1,3 +1,5 @@
+//! Why nothing is drawn.
+
 use thiserror::Error;
 
 /// Why nothing is drawn.

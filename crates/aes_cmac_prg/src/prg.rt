@@ -1,3 +1,5 @@
+//! The stream of a seed and an info text, and what is taken from it.
+
 use crate::fault::DrawFault;
 use crate::tag::cmac;
 use aes_block::Key;
@@ -39,7 +41,7 @@ impl Prg {
     ghost use Rattle.aes_cmac_prg.specs.Drawn.{bytes_drawn, drawn_at, element_of};
     ghost use Rattle.aes_cmac_prg.specs.Fault.{Draws, Leaves};
 
-    /// The stream of a seed and an info text, at its beginning.
+    /// The stream of a seed and an info text, at its beginning. It takes no memory.
     pub fn new(seed: &[u8; 16], info: &[u8]) -> Prg
         ensures { result ≡ record { key = cmac seed.now info.now; place = 0 } }
     {
@@ -97,7 +99,7 @@ impl Prg {
         F::decode(&spelled[..F::WIDTH])
     }
 
-    /// Draws `n` elements: numbers of the stream, each of as many bytes as the field spells an
+    /// Draws `n` elements, at most 8,192: numbers of the stream, each of as many bytes as the field spells an
     /// element in, are read low byte first, and those below the modulus are the elements.
     ///
     /// It answers `Spent` exactly where more than 128 numbers are skipped; what was read then stays

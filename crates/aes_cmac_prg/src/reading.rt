@@ -1,7 +1,9 @@
+//! A law of readings.
+
 ghost use Rattle.std.specs.Prelude.{◌≡◌, ℕ, List, sum};
 ghost use Rattle.aes_cmac_prg.specs.Stream.{bytes_at, in_pieces};
 
-/// Two readings of one stream give the same bytes, whatever pieces they are taken in: the pieces,
+/// A law: two readings of one stream give the same bytes, whatever pieces they are taken in: the pieces,
 /// one behind the other, are what one reading of them all gives.
 pub fn pieces_are_one_reading()
     ensures one { (key : List ℕ) (place : ℕ) (sizes : List ℕ)

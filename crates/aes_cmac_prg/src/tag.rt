@@ -1,3 +1,5 @@
+//! Tags of texts.
+
 ghost use Rattle.std.specs.Prelude.{◌≡◌, ◌<◌, ◌≤◌, length, replicate};
 ghost use Rattle.aes_block.specs.Cipher.{encrypt};
 ghost use Rattle.aes_block.specs.Schedule.{add_bytes};

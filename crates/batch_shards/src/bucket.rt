@@ -10,6 +10,7 @@ pub enum BucketFault {
     /// The batch is closed.
     #[error("the batch is closed")]
     Closed,
+    /// There was no memory for it.
     #[error("no memory")]
     NoMemory,
 }

@@ -10,15 +10,15 @@ ghost use Rattle.batch_shards.specs.Reports.{Report, AreOuts, outs, tally};
 
 use vdaf_api::Vdaf;
 
-/// A change of one batch leaves what is kept of every other batch.
+/// A law: a change of one batch leaves what is kept of every other batch.
 pub fn a_change_is_of_one_batch()
     ensures changed { (kept : Kept) (name : List ℕ) (start : ℕ) (b : Bucket) → bucket_of (changed kept name start b) name start ≡ b }
     ensures others { (kept : Kept) (name other : List ℕ) (start later : ℕ) (b : Bucket) → ((name ≢ other) ⊎ (start ≢ later))
         → bucket_of (changed kept name start b) other later ≡ bucket_of kept other later }
 {}
 
-/// What is kept of a batch is that of the list of its reports: nothing at first, a report more after each report that is
-/// added, a rejected one more after each rejection; and the total is the sum of the out shares.
+/// A law: what is kept of a batch is that of the list of its reports: nothing at first, a report more after each report
+/// that is added, a rejected one more after each rejection; and the total is the sum of the out shares.
 pub fn a_bucket_is_that_of_its_reports<V: Vdaf>(vdaf: &V)
     ensures first { nothing ≡ tally (V.functions vdaf.now).space [] 0 false }
     ensures added { (reports : List Report) (rejected : ℕ) (closed : Bool) (r : Report)
@@ -36,7 +36,7 @@ pub fn a_bucket_is_that_of_its_reports<V: Vdaf>(vdaf: &V)
         ≡ total (V.functions vdaf.now).space (outs reports) }
 {}
 
-/// What is kept of a batch doesn't depend on when a report was added.
+/// A law: what is kept of a batch doesn't depend on when a report was added.
 pub fn no_order_changes_a_bucket<V: Vdaf>(vdaf: &V)
     ensures { (before after : List Report) (r : Report) (rejected : ℕ) (closed : Bool)
         → tally (V.functions vdaf.now).space (before ++ r ∷ after) rejected closed

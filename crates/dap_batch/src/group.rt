@@ -5,8 +5,8 @@ ghost use Rattle.dap_batch.specs.Group.{batch_start, lane_number};
 
 use dap_bytes::Id;
 
-/// The batch of a report's time: the start of the time bucket in which it lies. Buckets are `precision` seconds long
-/// and begin at its multiples. It takes no memory.
+/// The batch of a report's time: the start of the time bucket in which it lies. Buckets are `precision` units of time
+/// long and begin at its multiples. It takes no memory.
 pub fn batch_of(time: u64, precision: u32) -> u64
     requires { 0 < precision }
     ensures value { result ≡ batch_start time precision }

@@ -7,7 +7,9 @@ use std::fmt;
 /// One of the two aggregators of the protocol (draft-ietf-ppm-dap-02). It prints as `leader` or `helper`.
 #[derive(Clone, Copy, Debug, PartialEq, Eq)]
 pub enum Node {
+    /// It takes the reports of clients, and leads their preparing and the collections.
     Leader,
+    /// It prepares its halves of the reports, and answers the leader.
     Helper,
 }
 

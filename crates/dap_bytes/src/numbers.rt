@@ -4,7 +4,7 @@ ghost use Rattle.std.specs.Int.{to_be_bytes, w16, w32, w64};
 
 use std::alloc::AllocError;
 
-/// Appends one byte.
+/// Appends one byte. Without memory nothing is appended, here as below.
 pub fn put_u8(out: &mut Vec<u8>, v: u8) -> Result<(), AllocError>
     ensures ok { OnOk result (out.new.items ≡ out.old.items ++ v ∷ []) }
     ensures err { OnErr result (out.new.items ≡ out.old.items) }
@@ -13,7 +13,7 @@ pub fn put_u8(out: &mut Vec<u8>, v: u8) -> Result<(), AllocError>
     Ok(())
 }
 
-/// Appends the number's two bytes.
+/// Appends the number's two bytes, the most significant first.
 pub fn put_u16(out: &mut Vec<u8>, v: u16) -> Result<(), AllocError>
     ensures ok { OnOk result (out.new.items ≡ out.old.items ++ to_be_bytes w16 v) }
     ensures err { OnErr result (out.new.items ≡ out.old.items) }
@@ -21,7 +21,7 @@ pub fn put_u16(out: &mut Vec<u8>, v: u16) -> Result<(), AllocError>
     out.extend_from_slice(&v.to_be_bytes())
 }
 
-/// Appends the number's four bytes.
+/// Appends the number's four bytes, by the same rule.
 pub fn put_u32(out: &mut Vec<u8>, v: u32) -> Result<(), AllocError>
     ensures ok { OnOk result (out.new.items ≡ out.old.items ++ to_be_bytes w32 v) }
     ensures err { OnErr result (out.new.items ≡ out.old.items) }
@@ -29,7 +29,7 @@ pub fn put_u32(out: &mut Vec<u8>, v: u32) -> Result<(), AllocError>
     out.extend_from_slice(&v.to_be_bytes())
 }
 
-/// Appends the number's eight bytes.
+/// Appends the number's eight bytes, by the same rule.
 pub fn put_u64(out: &mut Vec<u8>, v: u64) -> Result<(), AllocError>
     ensures ok { OnOk result (out.new.items ≡ out.old.items ++ to_be_bytes w64 v) }
     ensures err { OnErr result (out.new.items ≡ out.old.items) }

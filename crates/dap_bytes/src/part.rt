@@ -8,7 +8,9 @@ use std::fmt;
 /// It prints as `front` or `lane N`.
 #[derive(Clone, Copy, Debug, PartialEq, Eq)]
 pub enum Part {
+    /// The node's one front, which keeps its tasks and its collections.
     Front,
+    /// A lane, which keeps the reports of its identifiers, by its number from 0.
     Lane(u8),
 }
 

@@ -15,7 +15,9 @@ pub struct Dead;
 /// Why a change was refused.
 #[derive(Clone, Copy, Debug, PartialEq, Eq)]
 pub enum StoreFault {
+    /// The disk has stopped. Its images may have the change whole, in part or not at all.
     Down,
+    /// There was no memory, and nothing has changed.
     NoMemory,
 }
 

@@ -14,6 +14,8 @@ pub enum Image {
 /// A call at which the disk stops, counted from 1 and without restarts, and what the next restart leaves.
 #[derive(Clone, Copy, Debug, PartialEq, Eq)]
 pub struct Stop {
+    /// The call.
     pub call: u64,
+    /// What is left.
     pub image: Image,
 }

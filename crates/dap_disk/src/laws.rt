@@ -1,9 +1,9 @@
 //! Laws about the definitions, as contracts.
 ghost use Rattle.dap_disk.specs.Steps.{StepsAreImages};
 
-/// What the steps of `write_at` and `cut` make of the bytes at the last sync is what the disk model allows: the length
-/// is any between the least and the greatest since then, each byte in a written range and each at or past that least
-/// length is anything, and the other bytes stay.
+/// A law: what the steps of `write_at` and `cut` make of the bytes at the last sync is what the disk model allows: the
+/// length is any between the least and the greatest since then, each byte in a written range and each at or past that
+/// least length is anything, and the other bytes stay.
 #[tactic(auto, using(crate::specs::ImageLaws::steps_are_images))]
 pub fn image_law()
     ensures { StepsAreImages }

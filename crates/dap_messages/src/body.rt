@@ -19,8 +19,11 @@ pub const MOST_PREP: u32 = 1_024;
 /// What the helper gets of a report: its time, its public share and the helper's sealed input share.
 #[derive(Debug, Drop)]
 pub struct Half {
+    /// In units of time, at most `LATEST_TIME`.
     pub time: u64,
+    /// At most `MOST_PUBLIC` bytes.
     pub public: Bytes,
+    /// At most `MOST_HELPER` bytes.
     pub helper: Bytes,
 }
 
@@ -28,14 +31,18 @@ pub struct Half {
 /// none.
 #[derive(Debug, Drop)]
 pub enum Step {
+    /// The share or message, at most `MOST_PREP` bytes.
     Continued(Bytes),
+    /// Why there is none.
     Failed(Code),
 }
 
 /// A prepare step of a report in a ContResp: it was finished, or why not.
 #[derive(Clone, Copy, Debug, PartialEq, Eq)]
 pub enum Status {
+    /// The report was finished.
     Finished,
+    /// Why it wasn't.
     Failed(Code),
 }
 

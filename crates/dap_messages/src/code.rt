@@ -8,8 +8,8 @@ use crate::spelled::Spelled;
 use dap_bytes::{Cursor, put_u8};
 use std::alloc::{AllocError, Global};
 
-/// Why a report is not counted: the report errors of draft-ietf-ppm-dap-02, section 4.4.2, that this project has. In
-/// bytes they are 0, 1, 4 and 5.
+/// Why a report is not counted: the report errors of draft-ietf-ppm-dap-02, section 4.4, that this project has. In bytes
+/// they are 0, 1, 4 and 5.
 #[derive(Clone, Copy, Debug, PartialEq, Eq)]
 pub enum Code {
     /// The report's batch was collected before.

@@ -12,6 +12,7 @@ use thiserror::Error;
 #[derive(Clone, Copy, Debug, PartialEq, Eq, Error)]
 #[error("not of the form at byte {at}")]
 pub struct Form {
+    /// The place, counted in bytes from 0.
     pub at: usize,
 }
 
@@ -21,6 +22,7 @@ pub enum ReadFault {
     /// The bytes are not of the form, as `Form` says it.
     #[error("not of the form at byte {at}")]
     Form { at: usize },
+    /// There was no memory for the value.
     #[error("out of memory")]
     NoMemory,
 }

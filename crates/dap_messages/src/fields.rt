@@ -11,7 +11,7 @@ use crate::fault::{Form, ReadFault};
 use dap_bytes::{Bytes, Cursor, Name, put_u8, put_u32};
 use std::alloc::{AllocError, Global};
 
-/// The latest time, and the latest start of a batch.
+/// The latest time, and the latest start of a batch, in units of time.
 pub const LATEST_TIME: u64 = 999_999_999_999_999_999;
 
 /// The fault of a field whose bytes run out. The cursor goes to the input's end.

@@ -14,7 +14,9 @@ use std::marker::Model;
 /// What a message or record says of one report of a job.
 #[derive(Debug, Drop)]
 pub struct Tagged<B> {
+    /// The report's identifier.
     pub id: Id,
+    /// What is said of it.
     pub body: B,
 }
 
@@ -27,7 +29,8 @@ impl<B> Tagged<B> {
     }
 }
 
-/// The items of a message or record. Contracts see the list of them.
+/// The items of a message or record: 1 to 64 where they have a spelling, with strictly ascending identifiers. Contracts
+/// see the list of them.
 #[derive(Debug, Drop)]
 pub struct Items<B> {
     items: Vec<Tagged<B>>,

@@ -11,8 +11,11 @@ use std::alloc::{AllocError, Global};
 /// lane, then their incarnation, then their counter.
 #[derive(Clone, Copy, Debug, PartialEq, Eq, PartialOrd, Ord)]
 pub struct JobNo {
+    /// The lane, from 0.
     pub lane: u8,
+    /// The incarnation of the leader's lane, from 1.
     pub incarnation: u64,
+    /// The lane's counter within the incarnation.
     pub counter: u64,
 }
 

@@ -10,20 +10,20 @@ use crate::message::Message;
 use crate::report::Report;
 use crate::spelled::Spelled;
 
-/// No list of fields that the forms allow is longer than 4,194,304 bytes, and no report longer than 195,143. So a longer
-/// input has a fault.
+/// A law: no list of fields that the forms allow is longer than 4,194,304 bytes, and no report longer than 195,143. So
+/// a longer input has a fault.
 pub fn forms_are_bounded()
     ensures messages { (m : Message) → IsTrue (message.allowed m) → length (message.spell m) ≤ 4194304 }
     ensures reports { (r : Report) → IsTrue (report.allowed r) → length (report.spell r) ≤ 195143 }
 {}
 
-/// What is spelled is read again, so that no two values have one spelling.
+/// A law: what is spelled is read again, so that no two values have one spelling.
 pub fn spellings_are_read()
     ensures messages { (m : Message) → IsTrue (message.allowed m) → whole message (message.spell m) ≡ Ok m }
     ensures reports { (r : Report) → IsTrue (report.allowed r) → whole report (report.spell r) ≡ Ok r }
 {}
 
-/// A list of items has 1 to 64 of them, whose identifiers strictly ascend.
+/// A law: a list of items has 1 to 64 of them, whose identifiers strictly ascend.
 pub fn items_ascend<B: Spelled>()
     ensures { (xs : List (Tagged B)) → IsTrue ((items B.grammar).allowed xs)
         → (1 ≤ length xs) × (length xs ≤ 64) × IsAscending (ids_of xs) }

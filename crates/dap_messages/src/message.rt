@@ -94,7 +94,7 @@ impl Spelled for Message {
     }
 }
 
-/// An InitReq behind its first byte.
+/// An InitReq behind its first byte: `Form` exactly where there is none.
 pub fn read_init_req(alloc: Global, cursor: &mut Cursor<'_>) -> Result<Message, ReadFault>
     ensures { Gives init_req cursor.old result cursor.new }
 {

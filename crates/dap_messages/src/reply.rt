@@ -12,7 +12,7 @@ pub const MOST_OUT: u32 = 16_384;
 /// What the helper answers for a batch.
 #[derive(Debug, Drop)]
 pub enum Reply {
-    /// Its share of the batch's sum.
+    /// Its share of the batch's sum, at most `MOST_OUT` bytes.
     Share(Bytes),
     /// It finished too few reports: how many.
     Small(u32),

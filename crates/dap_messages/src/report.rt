@@ -16,11 +16,17 @@ pub const MOST_LEADER: u32 = 131_072;
 /// two sealed input shares.
 #[derive(Debug, Drop)]
 pub struct Report {
+    /// The task.
     pub name: Name,
+    /// What tells it from the task's other reports.
     pub id: Id,
+    /// In units of time, at most `LATEST_TIME`.
     pub time: u64,
+    /// At most `MOST_PUBLIC` bytes.
     pub public: Bytes,
+    /// The leader's sealed input share, at most `MOST_LEADER` bytes.
     pub leader: Bytes,
+    /// The helper's sealed input share, at most `MOST_HELPER` bytes.
     pub helper: Bytes,
 }
 

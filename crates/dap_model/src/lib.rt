@@ -1,4 +1,6 @@
-//! What is printed, and the plain model of which lines are.
+//! The plain model of a run: what each line of a script changes and prints, the limits of a run, and how a printed line
+//! is spelled. The layers above prove their text to be `model_text` of the definitions, spell lines with `print_line`,
+//! and take a run's `Limits`; the laws say what the model is in the words of who reads its output.
 #![tactic(auto)]
 
 mod laws;

@@ -57,7 +57,7 @@ fn perform<S: Source, F: Files, K: Sink>(
 }
 
 /// Does all that the program does: runs a script, with the tasks of a file where one is named, or prints the tasks of a
-/// file.
+/// file. The status says how it ended, and each comes exactly where the clauses say; want of memory may come at any time.
 pub fn dap_alone<S: Source, F: Files, K: Sink>(
     alloc: Global,
     words: &[String],

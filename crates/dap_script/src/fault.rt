@@ -8,7 +8,8 @@ use thiserror::Error;
 /// Why a script was refused.
 #[derive(Clone, Copy, Debug, PartialEq, Eq, Error)]
 pub enum ScriptFault {
-    /// The first line that is none, or that names the task of a line before it, counted from 1.
+    /// The first line that is none, or whose task has one of the given names or is that of a line before it, counted
+    /// from 1.
     #[error("line {line} is refused")]
     Refused { line: u32 },
     /// There was no memory to read it.

@@ -1,8 +1,9 @@
 //! The script: what the run is told to do, as a list of lines.
 //!
 //! A script is ASCII text of `task`, `now`, `measure`, `upload`, `collect` and `restart` lines, of empty lines and of
-//! comments. The layers above use `read_script`, whose answer is the function `script_of` of the script's bytes, and
-//! the laws that tie this function to the spelling.
+//! comments. The layers above use `read_script_beside`, whose answer is the function `script_beside` of the names that
+//! tasks may not have and the script's bytes, and the laws that tie this function to the spelling; `is_longer`; and
+//! `print_task`, which prints a task as its line.
 #![tactic(auto)]
 
 mod count;

@@ -16,7 +16,9 @@ use vdaf_api::Role;
 /// and a tag by CMAC with the second key (NIST SP 800-38B) stands behind them.
 #[derive(Clone, Copy, Debug)]
 pub struct CmacSeal {
+    /// The aggregator's keys.
     pub keys: SealKeys,
+    /// The aggregator.
     pub role: Role,
 }
 

@@ -14,6 +14,7 @@ pub enum OpenFault {
     /// There are too few bytes for a tag, or the tag isn't that of the head and the rest.
     #[error("the tag differs")]
     Tag,
+    /// There was no memory for the plain bytes, or for the text of the tag.
     #[error("no memory")]
     NoMemory,
 }

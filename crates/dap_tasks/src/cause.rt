@@ -11,7 +11,7 @@ pub enum Cause {
     Value,
     /// The report's time is more than 300 units above the moment.
     Early,
-    /// The task has expired.
+    /// The task has expired. No task has an end yet, so nothing is refused so.
     Expired,
     /// Another report of the task has the identifier.
     Conflict,

@@ -1,5 +1,6 @@
 //! Tasks: what is measured, in which batches, and with which keys; the file that they are read from; the known tasks with
-//! their measurement functions; and why a line or a report is refused.
+//! their measurement functions; and why a line or a report is refused. The layers above read a file with `read_tasks`,
+//! make a script's tasks with `trial`, keep the known ones in `Tasks`, and judge an offered report as `Judged` says.
 #![tactic(auto)]
 
 mod cause;

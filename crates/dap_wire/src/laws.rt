@@ -8,14 +8,14 @@ ghost use Rattle.dap_wire.specs.Meet.{HaveMet};
 
 use dap_outside::Fates;
 
-/// Each call leaves an end the end of its rings. So two ends of one link that were moved apart are the
-/// ends of one link after any calls on either, and may meet again.
+/// A law: each call leaves an end the end of its rings. So two ends of one link that were moved apart are
+/// the ends of one link after any calls on either, and may meet again.
 pub fn ends_stay_linked<T: Fates>()
     ensures { (a b a' b' : Link T) → IsLink a b → SameEnd a a' → SameEnd b b' → IsLink a' b' }
 {}
 
-/// Where two ends have met, what one received is the beginning of what the other sent. Once it reads its
-/// ring to be empty in a later call, it has received all that was sent until the meet.
+/// A law: where two ends have met, what one received is the beginning of what the other sent. Once it reads
+/// its ring to be empty in a later call, it has received all that was sent until the meet.
 pub fn received_is_the_beginning_of_sent<T: Fates>()
     ensures there { (a b : Link T) → HaveMet a b → IsPrefix b.received a.sent }
     ensures back { (a b : Link T) → HaveMet a b → IsPrefix a.received b.sent }

@@ -13,7 +13,7 @@ use std::marker::Model;
 pub struct Upload {
     /// The line of the script that has it.
     pub line: u32,
-    /// The server's time when it came, in seconds, where the script said one.
+    /// The moment when it came, in units of time, where one was known.
     pub moment: Option<u64>,
     /// The bytes of the report, which the front has read.
     pub report: Bytes,

@@ -1,3 +1,5 @@
+//! The field's calls.
+
 ghost use Rattle.std.proofs.Common.{lit≤};
 ghost use Rattle.field128.specs.Modulus.{modulus};
 ghost use Rattle.field128.specs.Element.{number_of, residue_of, ring_of, root_of_log, half_element};

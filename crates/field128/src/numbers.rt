@@ -1,3 +1,5 @@
+//! Sums and rests of numbers modulo p.
+
 ghost use Rattle.std.specs.Prelude.{◌≡◌, ◌+◌, ◌-◌, ◌%◌, ◌<◌};
 ghost use Rattle.field128.specs.Modulus.{modulus};
 

@@ -1,3 +1,5 @@
+//! The product of two numbers modulo p.
+
 ghost use Rattle.std.specs.Prelude.{◌≡◌, ◌+◌, ◌*◌, ◌%◌, ◌≤◌, ◌^◌};
 ghost use Rattle.field128.specs.Modulus.{modulus};
 

@@ -1,3 +1,5 @@
+//! Sums, products and rests of numbers modulo p.
+
 ghost use Rattle.std.specs.Prelude.{◌≡◌, ◌+◌, ◌-◌, ◌*◌, ◌%◌, ◌<◌};
 ghost use Rattle.field64.specs.Modulus.{modulus};
 

@@ -1,3 +1,5 @@
+//! The plain program of a product.
+
 ghost use Rattle.std.specs.Prelude.{◌≡◌};
 
 use crate::element::Field;

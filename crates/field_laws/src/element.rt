@@ -1,3 +1,5 @@
+//! Elements of a field of residues.
+
 ghost use Rattle.std.specs.Prelude.{◌≡◌, ◌≢◌, ℕ, ◌+◌, ◌≤◌, ◌^◌, ◌↔◌, IsTrue, IsOk, OnOk, OnErr, MatchOption, ◌++◌, ◌⊎◌, length, vec_len, vec_capacity};
 ghost use Rattle.field_laws.specs.Ring.{Ring, RingLaws, RootLaws, power, minus};
 ghost use Rattle.field_laws.specs.Bytes.{low_bytes, from_low};
@@ -12,11 +14,13 @@ pub trait Field: Copy {
     /// The modulus p.
     const MODULUS: u128;
 
+    /// The same in clauses.
     ghost MODULUS: { ℕ };
 
     /// How many bytes spell an element.
     const WIDTH: usize;
 
+    /// The same in clauses.
     ghost WIDTH: { ℕ };
 
     /// The element's number, below p.
@@ -79,7 +83,7 @@ pub trait Field: Copy {
         product
     }
 
-    /// The root of one of order 2^log, the power of one generator.
+    /// The root of one of order 2^log, for log up to 16: a power of one generator.
     fn root(log: u8) -> Self
         requires { log ≤ 16 }
         ensures { result ≡ root_of log };
@@ -139,18 +143,24 @@ pub trait Field: Copy {
     /// Sixteen bytes are the most.
     ghost narrow: { WIDTH ≤ 16 };
 
+    /// One byte is the least.
     ghost some_byte: { 1 ≤ WIDTH };
 
     /// Each number below p has a spelling.
     ghost room: { MODULUS ≤ 256 ^ WIDTH };
 
+    /// Elements and the numbers below p lead to one another.
     ghost residues: { Residues MODULUS number residue };
 
+    /// Each answer of the ring is the residue of the numbers' sum, difference or product.
     ghost is_ring: { ring ≡ residue_ring MODULUS number residue };
 
+    /// It is a commutative ring with one.
     ghost laws: { RingLaws ring };
 
+    /// The roots of one have their orders.
     ghost roots: { RootLaws ring 16 root_of };
 
+    /// Half and half make one.
     ghost halves: { ring.add half_of half_of ≡ ring.unit };
 }

@@ -1,3 +1,5 @@
+//! The exponents of powers of two.
+
 ghost use Rattle.std.specs.Prelude.{◌≡◌, ◌≤◌, ◌^◌};
 ghost use Rattle.field_laws.specs.Interpolation.{HasLog};
 

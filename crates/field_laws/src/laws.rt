@@ -1,3 +1,5 @@
+//! Laws of fields, for the layers above.
+
 ghost use Rattle.std.specs.Prelude.{◌≡◌, ℕ, ◌+◌, ◌/◌, ◌^◌, ◌<◌, ◌≤◌, length};
 ghost use Rattle.field_laws.specs.Ring.{RingLaws, HasOrder, power};
 ghost use Rattle.field_laws.specs.Residues.{IsModular};

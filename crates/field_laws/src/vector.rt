@@ -1,3 +1,5 @@
+//! Vectors of elements.
+
 ghost use Rattle.std.specs.Prelude.{◌≡◌, length, map};
 ghost use Rattle.field_laws.specs.Vector.{add_elements, add_each};
 

@@ -1,3 +1,5 @@
+//! What a circuit is.
+
 ghost use Rattle.std.specs.Prelude.{◌≡◌, ◌≤◌, ◌<◌, ◌↔◌, length, IfOk};
 ghost use Rattle.flp_circuits.specs.Shape.{Shape, ShapeLaws, EncodeLaws, gadget};
 
@@ -11,6 +13,7 @@ pub enum EncodeFault {
     /// It isn't one of the circuit's kind.
     #[error("the value is not of the kind")]
     BadValue,
+    /// There was no memory for it.
     #[error("out of memory")]
     NoMemory,
 }
@@ -21,8 +24,10 @@ pub enum EncodeFault {
 /// carries `input`, and the gadget takes the `arity` wires of a call to its result. From all results `validity` makes
 /// the value that is zero where the input keeps the rules. Only `encode` and `truncate` take memory.
 pub trait Circuit {
+    /// The field of its elements.
     type F: Field;
 
+    /// What it computes.
     ghost shape: { Self → Shape Self.F };
 
     /// The input of the measurement `m`: `BadValue` exactly where it isn't one of the kind.
@@ -82,7 +87,9 @@ pub trait Circuit {
         requires results { length results.now ≡ (shape self.now).calls }
         ensures { result ≡ (shape self.now).validity one x.now joint.now results.now };
 
+    /// Its sizes are within limits, and wires and validity are linear.
     ghost laws: { (c : Self) → ShapeLaws Self.F.ring (shape c) };
 
+    /// Encodings are valid inputs, and out shares add.
     ghost codes: { (c : Self) → EncodeLaws Self.F.ring (shape c) };
 }

@@ -1,3 +1,5 @@
+//! The circuit of counts.
+
 use crate::circuit::{Circuit, EncodeFault};
 use crate::entries::bit_of;
 use field_laws::Field;

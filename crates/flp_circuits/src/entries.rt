@@ -1,3 +1,5 @@
+//! Vectors of bits, and their weighted sums.
+
 ghost use Rattle.std.specs.Prelude.{◌≡◌, ℕ, ◌+◌, ◌≤◌, ◌^◌, ◌<◌, length, IfOk, nat_eq};
 ghost use Rattle.field_laws.specs.Ring.{power};
 ghost use Rattle.flp_circuits.specs.Shape.{quadratic_at};

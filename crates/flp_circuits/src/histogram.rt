@@ -1,3 +1,5 @@
+//! The circuit of histograms.
+
 ghost use Rattle.std.specs.Prelude.{◌≡◌, ◌≤◌, length, nat_le, position};
 ghost use Rattle.std.specs.List.Sorted.{IsStrictlyIncreasing};
 
@@ -11,6 +13,7 @@ use std::marker::PhantomData;
 /// above, or in the last bucket where it is above all. The bounds, 1 to 63 of them, ascend strictly.
 #[derive(Drop)]
 pub struct Histogram<F> {
+    /// The upper bounds of all buckets but the last, which has none.
     pub bounds: Vec<u64>,
     field: PhantomData<F>,
     pub ghost some_bound: { 1 ≤ length bounds.items },

@@ -1,3 +1,5 @@
+//! Laws of circuits, for the layers above.
+
 ghost use Rattle.flp_circuits.specs.Shape.{ShapeLaws, EncodeLaws};
 
 use crate::circuit::Circuit;

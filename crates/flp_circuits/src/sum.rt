@@ -1,3 +1,5 @@
+//! The circuit of sums.
+
 ghost use Rattle.std.specs.Prelude.{◌≡◌, ◌≤◌};
 
 use crate::circuit::{Circuit, EncodeFault};
@@ -9,6 +11,7 @@ use std::marker::PhantomData;
 /// The circuit of sums: a measurement is a number of `bits` bits, 1 to 64 of them.
 #[derive(Drop)]
 pub struct Sum<F> {
+    /// How many bits a measurement has.
     pub bits: u8,
     field: PhantomData<F>,
     pub ghost some_bits: { 1 ≤ bits },

@@ -1,3 +1,5 @@
+//! The decision on a verifier.
+
 ghost use Rattle.std.specs.Prelude.{◌≡◌, ◌+◌, ◌↔◌, length, IsTrue};
 ghost use Rattle.flp_proof.specs.Proof.{Accepts};
 

@@ -1,3 +1,5 @@
+//! Laws of proofs, for the layers above.
+
 ghost use Rattle.std.specs.Prelude.{◌≡◌, ◌+◌, ◌-◌, ◌*◌, ◌^◌, ◌<◌, ◌≤◌, ℕ, List, length, slice_index_or};
 ghost use Rattle.field_laws.specs.Polynomial.{eval, add_polynomials};
 ghost use Rattle.field_laws.specs.Interpolation.{Interpolates};

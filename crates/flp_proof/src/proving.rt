@@ -1,3 +1,5 @@
+//! The proof of an input.
+
 ghost use Rattle.std.specs.Prelude.{◌≡◌, length, IfOk};
 ghost use Rattle.flp_proof.specs.Proof.{proof_of, proof_len};
 
@@ -8,7 +10,8 @@ use flp_circuits::Circuit;
 use poly_ntt::inverse;
 use std::alloc::{AllocError, Global};
 
-/// The proof for the input `x`: the wire seeds, one for each wire, then the gadget polynomial's coefficients. The joint
+/// The proof for the input `x`, `proof_len` elements: the wire seeds, one for each wire, then the gadget polynomial's
+/// coefficients. The joint
 /// randomness belongs to the proof's interface in the draft, and these circuits' gadgets don't depend on it.
 pub fn prove<C: Circuit>(
     alloc: Global,

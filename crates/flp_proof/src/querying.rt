@@ -1,3 +1,5 @@
+//! The query of a share.
+
 ghost use Rattle.std.specs.Prelude.{◌≡◌, ◌+◌, ◌^◌, ◌↔◌, length, IfOk};
 ghost use Rattle.field_laws.specs.Ring.{power};
 ghost use Rattle.flp_proof.specs.Proof.{wire_log, proof_len, query_of};
@@ -18,6 +20,7 @@ pub enum QueryFault {
     /// The point is a P-th root of one.
     #[error("the query point is a root of one")]
     Root,
+    /// There was no memory for the verifier share.
     #[error("out of memory")]
     NoMemory,
 }

@@ -1,3 +1,5 @@
+//! The sizes of a proof.
+
 ghost use Rattle.std.specs.Prelude.{◌≡◌, ◌+◌, ◌^◌, ◌≤◌};
 ghost use Rattle.flp_proof.specs.Proof.{wire_log, proof_len};
 

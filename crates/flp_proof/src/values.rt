@@ -1,3 +1,5 @@
+//! Values at the powers of a root.
+
 ghost use Rattle.std.specs.Prelude.{◌≡◌, ◌*◌, ◌≤◌, ◌^◌, length, IfOk, slice_index_or};
 ghost use Rattle.poly_ntt.specs.Transform.{values_at_powers};
 

@@ -1,3 +1,5 @@
+//! The wire polynomials.
+
 ghost use Rattle.std.specs.Prelude.{◌≡◌, ◌+◌, ◌≤◌, ◌<◌, ◌^◌, length, map, IfOk};
 ghost use Rattle.std.specs.List.{range_with_len};
 ghost use Rattle.poly_ntt.specs.Transform.{values_at_powers};

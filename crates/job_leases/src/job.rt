@@ -5,24 +5,33 @@ use dap_messages::JobNo;
 /// What an open job waits for. In `Combine` and `Finish` it waits for a worker, in the others for the helper.
 #[derive(Clone, Copy, Debug, PartialEq, Eq)]
 pub enum Stage {
+    /// The helper's answer to the InitReq.
     AwaitInit,
+    /// A worker that makes the prep messages.
     Combine,
+    /// The helper's answer to the ContReq.
     AwaitCont,
+    /// A worker that finishes the reports.
     Finish,
 }
 
 /// A worker's hold on a job, from the turn in which it was given on.
 #[derive(Clone, Copy, Debug, PartialEq, Eq)]
 pub struct Lease {
+    /// The turn in which it was given.
     pub turn: u64,
+    /// Who has it. It decides nothing.
     pub worker: u8,
 }
 
 /// An open job with its stage, and the lease that it was given last if none has ended it since.
 #[derive(Clone, Copy, Debug, PartialEq, Eq)]
 pub struct OpenJob {
+    /// Its number.
     pub job: JobNo,
+    /// What it waits for.
     pub stage: Stage,
+    /// The lease, which stands for `Lease::TURNS` turns.
     pub lease: Option<Lease>,
 }
 

@@ -11,6 +11,7 @@ use std::marker::Model;
 /// A job isn't at the stage from which it was to be moved: the stage at which it stands, or none where it isn't open.
 #[derive(Clone, Copy, Debug, PartialEq, Eq)]
 pub struct Stale {
+    /// Where it stands.
     pub stands: Option<Stage>,
 }
 

@@ -18,6 +18,7 @@ pub enum RecordsFault {
     /// One of them is no record: the place of the first such one, from 0, and the place of the first fault in it.
     #[error("record {entry} is not of the form at byte {at}")]
     Form { entry: u64, at: usize },
+    /// There was no memory for the records.
     #[error("out of memory")]
     NoMemory,
 }

@@ -12,22 +12,22 @@ ghost use Rattle.lane_records.specs.Stored.{stored};
 /// The most bytes of a record.
 pub const MOST_RECORD: usize = 4_098_102;
 
-/// A record has at most so many bytes. With the four bytes of its length it is within the 16,777,216 bytes of a block of
-/// a journal, so that each record may be appended.
+/// A law: a record has at most so many bytes. With the four bytes of its length it is within the 16,777,216 bytes of a
+/// block of a journal, so that each record may be appended.
 pub fn records_are_bounded()
     ensures bounded { (x : Record) → IsTrue (record_.allowed x) → length (record_.spell x) ≤ MOST_RECORD }
     ensures appended { (x : Record) → IsTrue (record_.allowed x) → 4 + length (record_.spell x) ≤ 16777216 }
 {}
 
-/// What is spelled is read again, so that no two records have one spelling; and what is read from bytes has a spelling,
-/// which is those bytes.
+/// A law: what is spelled is read again, so that no two records have one spelling; and what is read from bytes has a
+/// spelling, which is those bytes.
 pub fn records_are_read()
     ensures again { (x : Record) → IsTrue (record_.allowed x) → whole record_ (record_.spell x) ≡ Ok x }
     ensures only { (text : List ℕ) (x : Record) → All (λ b. b < 256) text → whole record_ text ≡ Ok x
         → IsTrue (record_.allowed x) × (text ≡ record_.spell x) }
 {}
 
-/// The kind, the minimum and the precision of a Task record are within the ranges of a task.
+/// A law: the kind, the minimum and the precision of a Task record are within the ranges of a task.
 pub fn stored_tasks_are_within_ranges()
     ensures { (t : StoredTask) → IsTrue (stored.allowed t) → AreTaskNumbers t.kind t.min t.precision }
 {}

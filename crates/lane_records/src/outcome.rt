@@ -10,7 +10,9 @@ use std::alloc::{AllocError, Global};
 /// not.
 #[derive(Debug, Drop)]
 pub enum Outcome {
+    /// The out share, at most `MOST_OUT` bytes.
     Finished(Bytes),
+    /// Why not.
     Failed(Code),
 }
 

@@ -5,7 +5,9 @@ use thiserror::Error;
 /// The place of a lane: how many lanes its node has, 1 to 16, and which of them it is, from 0.
 #[derive(Clone, Copy, Debug, PartialEq, Eq)]
 pub struct Place {
+    /// How many lanes there are.
     pub lanes: u8,
+    /// Which one it is.
     pub lane: u8,
 }
 
@@ -15,6 +17,7 @@ pub enum LaneFault {
     /// Its disk stopped for good, or too often.
     #[error("the lane's disk stopped")]
     Stopped,
+    /// There was no memory.
     #[error("out of memory")]
     NoMemory,
 }
@@ -25,6 +28,7 @@ pub enum FrontFault {
     /// Its disk stopped for good, or too often.
     #[error("the front's disk stopped")]
     Stopped,
+    /// There was no memory.
     #[error("out of memory")]
     NoMemory,
 }

@@ -1,3 +1,5 @@
+//! The halving of the transform.
+
 ghost use Rattle.std.specs.Prelude.{◌≡◌, ◌≤◌, ◌^◌, length};
 ghost use Rattle.field_laws.specs.Polynomial.{add_polynomials};
 ghost use Rattle.poly_ntt.specs.Transform.{twisted, halving};

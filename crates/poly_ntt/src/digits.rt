@@ -1,3 +1,5 @@
+//! The order in which halving leaves the values.
+
 ghost use Rattle.std.specs.Prelude.{◌≡◌, ◌≤◌, ◌<◌, ◌^◌, ℕ, length, slice_index_or};
 ghost use Rattle.poly_ntt.specs.Transform.{reversed};
 

@@ -1,3 +1,5 @@
+//! The transform and its inverse.
+
 ghost use Rattle.std.specs.Prelude.{◌≡◌, ◌<◌, ◌^◌, ℕ, length};
 ghost use Rattle.field_laws.specs.Polynomial.{scale};
 ghost use Rattle.field_laws.specs.Interpolation.{HasLog, Interpolates};

@@ -1,3 +1,5 @@
+//! Interpolation by plain sums.
+
 ghost use Rattle.std.specs.Prelude.{◌≡◌, ◌-◌, ◌^◌, ◌≤◌, ℕ, List, length, IfOk};
 ghost use Rattle.field_laws.specs.Ring.{power};
 ghost use Rattle.field_laws.specs.Interpolation.{HasLog, Interpolates, interpolation};

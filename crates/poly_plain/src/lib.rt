@@ -1,6 +1,6 @@
 //! Polynomials over a field, as slices of coefficients with the constant one first, by plain sums: the value at a
 //! point, the product, and the one polynomial that has given values at the powers of a root of one. The layers above
-//! use [`interpolate`] by its law alone, which any faster program for it meets too.
+//! use [`eval`]; [`interpolate`] is the plain program of the fast transform's inverse, and both meet one clause.
 #![tactic(auto)]
 
 mod interpolated;

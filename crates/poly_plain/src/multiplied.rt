@@ -1,3 +1,5 @@
+//! Products of polynomials.
+
 ghost use Rattle.std.specs.Prelude.{◌≡◌, ◌+◌, ◌≤◌, ◌<◌, length, IfOk};
 ghost use Rattle.field_laws.specs.Polynomial.{eval, add_polynomials, scale, product};
 

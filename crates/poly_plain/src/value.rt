@@ -1,3 +1,5 @@
+//! Values of polynomials.
+
 ghost use Rattle.std.specs.Prelude.{◌≡◌};
 ghost use Rattle.field_laws.specs.Polynomial.{eval, sum_of_terms};
 

@@ -5,6 +5,7 @@ use field_laws::Field;
 
 /// A field whose members are one value, so that a clause can name it.
 pub trait Based: Field {
+    /// The ring, half, roots, numbers, residues, modulus and width of the field.
     ghost base: { Base Self };
 }
 

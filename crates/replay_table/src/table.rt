@@ -17,6 +17,7 @@ pub enum PutFault {
     /// The task's identifier is held, with this job.
     #[error("the report was finished before")]
     There { job: JobNo },
+    /// There was no memory for it. It isn't held.
     #[error("no memory")]
     NoMemory,
 }

@@ -5,6 +5,7 @@
 pub enum AppendFault {
     /// The disk stopped. All of the block or none of it is there; a restart finds out.
     Down,
+    /// There was no memory. The records are as before, in every image too.
     NoMemory,
 }
 
@@ -24,5 +25,6 @@ pub enum LogFault {
     Down,
     /// The bytes are no journal: at this place, behind whole blocks, a gate is open and no block stands.
     NotAJournal { at: u64 },
+    /// There was no memory. The disk's bytes give the same records as before.
     NoMemory,
 }

@@ -50,7 +50,9 @@ impl<D: Disk> Model for Log<D> {
 /// Why an opening was refused, with the disk.
 #[derive(Drop)]
 pub struct OpenRefused<D> {
+    /// The disk, which is up but for `Down`.
     pub disk: D,
+    /// Why.
     pub fault: LogFault,
 }
 

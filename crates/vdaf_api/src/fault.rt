@@ -15,6 +15,7 @@ pub enum ShardFault {
     /// A drawing from the seed skipped too many values.
     #[error("a drawing is spent")]
     Spent,
+    /// There was no memory for the shares.
     #[error("out of memory")]
     NoMemory,
 }
@@ -25,6 +26,7 @@ pub enum PrepFault {
     /// The shares or the message aren't those of a report that can be prepared.
     #[error("the report is not valid")]
     Invalid,
+    /// There was no memory for the value.
     #[error("out of memory")]
     NoMemory,
 }

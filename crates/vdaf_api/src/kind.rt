@@ -9,8 +9,11 @@ use crate::bounds::Bounds;
 /// none. There are 1 to 63 bounds, and they ascend strictly.
 #[derive(Clone, Debug, PartialEq, Eq, Drop)]
 pub enum Kind {
+    /// Measurements of 0 and 1.
     Count,
+    /// Numbers of so many bits.
     Sum { bits: u8 },
+    /// Numbers by the buckets that these bounds make.
     Histogram { bounds: Bounds },
 }
 

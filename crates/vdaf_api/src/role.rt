@@ -4,6 +4,8 @@
 /// helper's the second.
 #[derive(Clone, Copy, Debug, PartialEq, Eq)]
 pub enum Role {
+    /// The leader, whose input share spells its half.
     Leader,
+    /// The helper, whose input share has the keys that its half is drawn from.
     Helper,
 }

@@ -4,7 +4,10 @@
 /// lowest byte first.
 #[derive(Clone, Copy, Debug, PartialEq, Eq)]
 pub struct Space {
+    /// What the numbers are below, at most 256^width.
     pub modulus: u128,
+    /// How many bytes spell a number, 1 to 16.
     pub width: usize,
+    /// How many numbers an out share has, in at most 16,384 bytes together.
     pub size: usize,
 }

@@ -97,7 +97,9 @@ pub trait Vdaf: Drop {
         requires helper { IsOut (functions self.now).space helper.now }
         ensures { IfOk result (λ a. a ≡ (functions self.now).answer (numbers (functions self.now).space (plus (functions self.now).space leader.now helper.now))) };
 
+    /// It keeps the laws of measurement functions.
     ghost laws: { (v : Self) → FunctionLaws (functions v) };
 
+    /// So does the function of each kind within its ranges.
     ghost kind_laws: { (k : Kind) → IsKind k → FunctionLaws (of_kind k) };
 }

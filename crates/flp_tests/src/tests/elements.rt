@@ -35,14 +35,17 @@ pub fn sized_elements<F: Field>(
     Ok(sized(rt, made, size))
 }
 
+/// Ends the test unless the number is the wanted one.
 pub fn check_number(rt: &impl Abort, number: u128, want: u128) {
     assert_eq!(rt; number, want);
 }
 
+/// Ends the test unless the answer is the wanted one.
 pub fn check_flag(rt: &impl Abort, flag: bool, want: bool) {
     assert_eq!(rt; flag, want);
 }
 
+/// Ends the test unless the elements have the wanted numbers.
 pub fn check_elements<F: Field>(rt: &impl Abort, got: &[F], want: &[u128]) {
     assert_eq!(rt; got.len(), want.len());
     for (element, want) in got.iter().zip(want) {

@@ -19,20 +19,21 @@ ghost use Rattle.lane_records.specs.declared.record.Record.TheVariants.{Continue
 
 use dap_messages::{Half, Step, items_ascend};
 
-/// An empty journal is legal. With one record more a journal is legal exactly where it was and the record may follow.
+/// A law: an empty journal is legal. With one record more a journal is legal exactly where it was and the record may
+/// follow.
 pub fn legal_journals_grow_by_allowed_records()
     ensures empty { (node : Node) (part : Part) → IsLegalJournal node part [] }
     ensures grown { (node : Node) (part : Part) (journal : List Record) (x : Record) →
         IsLegalJournal node part (journal ++ x ∷ []) ↔ (IsLegalJournal node part journal × May node part x (reverse journal)) }
 {}
 
-/// A journal has one place of the first record that is refused, or none.
+/// A law: a journal has one place of the first record that is refused, or none.
 pub fn one_record_is_the_first_refused()
     ensures { (node : Node) (part : Part) (journal : List Record) (here there : Option ℕ) →
         IsFirstRefused node part journal here → IsFirstRefused node part journal there → here ≡ there }
 {}
 
-/// The identifiers of a job strictly ascend, at both lanes, so that no report stands twice in one.
+/// A law: the identifiers of a job strictly ascend, at both lanes, so that no report stands twice in one.
 pub fn identifiers_of_a_job_ascend()
     ensures continued { (lane : ℕ) (journal : List Record) → IsLegalJournal Leader (Lane lane) journal →
         (name : List ℕ) (job : JobNo) (steps : List (Tagged Step)) → Mem (Continue name job steps) journal → IsAscending (ids_of steps) }
@@ -43,7 +44,7 @@ pub fn identifiers_of_a_job_ascend()
     items_ascend::<Half>();
 }
 
-/// A leader's lane takes no report of a task into two jobs.
+/// A law: a leader's lane takes no report of a task into two jobs.
 pub fn reports_are_continued_once()
     ensures { (lane : ℕ) (journal : List Record) → IsLegalJournal Leader (Lane lane) journal →
         (name id : List ℕ) (job other : JobNo) (steps others : List (Tagged Step)) →
@@ -51,7 +52,7 @@ pub fn reports_are_continued_once()
         Mem (Continue name other others) journal → Mem id (ids_of others) → job ≡ other }
 {}
 
-/// A helper's lane finishes no report of a task in two jobs.
+/// A law: a helper's lane finishes no report of a task in two jobs.
 pub fn reports_are_finished_once()
     ensures { (lane : ℕ) (journal : List Record) → IsLegalJournal Helper (Lane lane) journal →
         (name id : List ℕ) (job other : JobNo) (halves others : List (Tagged Half)) (outs results : List (Tagged Outcome)) →
