@@ -1,4 +1,12 @@
 //! Why a journal's calls are refused.
+ghost use Rattle.std.specs.Prelude.{◌≡◌};
+ghost use Rattle.report_journal.specs.Faults.{after_change};
+ghost use Rattle.report_journal.specs.declared.fault.AppendFault.TheVariants as append;
+ghost use Rattle.report_journal.specs.declared.fault.LogFault.TheVariants as log;
+ghost use Rattle.report_journal.specs.declared.fault.RestartFault.TheVariants as restart;
+
+use dap_disk::{Dead, Down, StoreFault};
+use std::alloc::AllocError;
 
 /// Why an append was refused.
 #[derive(Clone, Copy, Debug, PartialEq, Eq)]
@@ -27,4 +35,55 @@ pub enum LogFault {
     NotAJournal { at: u64 },
     /// There was no memory. The disk's bytes give the same records as before.
     NoMemory,
+}
+
+impl From<AllocError> for AppendFault {
+    ghost from_gives = { λ _ fault. fault ≡ append.NoMemory };
+
+    fn from(_: AllocError) -> Self {
+        AppendFault::NoMemory
+    }
+}
+
+impl From<Dead> for RestartFault {
+    ghost from_gives = { λ _ fault. fault ≡ restart.Dead };
+
+    fn from(_: Dead) -> Self {
+        RestartFault::Dead
+    }
+}
+
+impl From<Down> for RestartFault {
+    ghost from_gives = { λ _ fault. fault ≡ restart.Down };
+
+    fn from(_: Down) -> Self {
+        RestartFault::Down
+    }
+}
+
+impl From<AllocError> for LogFault {
+    ghost from_gives = { λ _ fault. fault ≡ log.NoMemory };
+
+    fn from(_: AllocError) -> Self {
+        LogFault::NoMemory
+    }
+}
+
+impl From<Down> for LogFault {
+    ghost from_gives = { λ _ fault. fault ≡ log.Down };
+
+    fn from(_: Down) -> Self {
+        LogFault::Down
+    }
+}
+
+impl From<StoreFault> for LogFault {
+    ghost from_gives = { λ change fault. fault ≡ after_change change };
+
+    fn from(change: StoreFault) -> Self {
+        match change {
+            StoreFault::Down => LogFault::Down,
+            StoreFault::NoMemory => LogFault::NoMemory,
+        }
+    }
 }

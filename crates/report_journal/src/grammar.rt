@@ -89,10 +89,9 @@ pub(crate) fn parse(alloc: Global, file: &[u8]) -> Result<(Vec<Vec<u8>>, usize),
     let mut records = Vec::new(alloc);
     let mut at = 0;
     while file[at] == 1 {
-        match next_block(alloc, rest_of(file, at), &mut records) {
-            Ok(Some(n)) => at += n,
-            Ok(None) => return Err(LogFault::NotAJournal { at: at as u64 }),
-            Err(_) => return Err(LogFault::NoMemory),
+        match next_block(alloc, rest_of(file, at), &mut records)? {
+            Some(n) => at += n,
+            None => return Err(LogFault::NotAJournal { at: at as u64 }),
         }
     }
     Ok((records, at))

@@ -153,17 +153,12 @@ impl<D: Disk> Log<D> {
         ensures counts { (D.downs self.old.disk ≤ D.downs self.new.disk) × (D.deads self.old.disk ≤ D.deads self.new.disk) }
     {
         let gate = self.gate;
-        let bytes = match block_bytes(alloc, records) {
-            Ok(bytes) => bytes,
-            Err(_) => return Err(AppendFault::NoMemory),
-        };
+        let bytes = block_bytes(alloc, records)?;
         let size = bytes.len() as u64;
         if gate >= u64::MAX - size {
             return Err(AppendFault::NoMemory);
         }
-        let Ok(()) = keep_copies(alloc, &mut self.records, records) else {
-            return Err(AppendFault::NoMemory);
-        };
+        keep_copies(alloc, &mut self.records, records)?;
         match write_block(&mut self.disk, &self.records, self.durable, gate, &bytes) {
             Ok(()) => {
                 self.durable = self.records.len();

@@ -82,10 +82,8 @@ pub(crate) fn write_block<D: Disk>(
     ensures counts { (D.downs disk.old ≤ D.downs disk.new) × (D.deads disk.old ≤ D.deads disk.new) }
     ensures cause { IsErrOf result StoreFault.Down → Rose (D.downs disk.old) (D.downs disk.new) }
 {
-    match stage_block(disk, kept, durable, gate, bytes) {
-        Ok(()) => open_gate(disk, kept, durable, gate),
-        Err(fault) => Err(fault),
-    }
+    stage_block(disk, kept, durable, gate, bytes)?;
+    open_gate(disk, kept, durable, gate)
 }
 
 /// Restarts the disk, and says whether the gate at this place stands open.
@@ -100,12 +98,8 @@ pub(crate) fn gate_after_restart<D: Disk>(disk: &mut D, gate: u64) -> Result<boo
     ensures dead { IsErrOf result RestartFault.Dead → Rose (D.deads disk.old) (D.deads disk.new) }
     ensures down { IsErrOf result RestartFault.Down → Rose (D.downs disk.old) (D.downs disk.new) }
 {
-    if disk.restart().is_err() {
-        return Err(RestartFault::Dead);
-    }
+    disk.restart()?;
     let mut byte = [0];
-    match disk.read(gate, &mut byte) {
-        Ok(n) => Ok(n == 1 && byte[0] == 1),
-        Err(_) => Err(RestartFault::Down),
-    }
+    let n = disk.read(gate, &mut byte)?;
+    Ok(n == 1 && byte[0] == 1)
 }

@@ -48,19 +48,13 @@ fn read_all<D: Disk>(alloc: Global, disk: &mut D) -> Result<Vec<u8>, LogFault>
     ensures cause { result ≡ Err LogFault.Down → Rose (D.downs disk.old) (D.downs disk.new) }
     ensures read { (at : ℕ) → result ≡ Err (LogFault.NotAJournal at) → ⊥ }
 {
-    let Ok(size) = disk.len() else {
-        return Err(LogFault::Down);
-    };
+    let size = disk.len()?;
     let mut file = Vec::new(alloc);
-    let Ok(()) = file.resize(size as usize, 0u8) else {
-        return Err(LogFault::NoMemory);
-    };
+    file.resize(size as usize, 0u8)?;
     if size == 0 {
         return Ok(file);
     }
-    let Ok(n) = read_into(disk, &mut file) else {
-        return Err(LogFault::Down);
-    };
+    let n = read_into(disk, &mut file)?;
     file.truncate(n);
     Ok(file)
 }
@@ -136,19 +130,11 @@ pub(crate) fn start<D: Disk>(alloc: Global, disk: &mut D) -> Result<(Vec<Vec<u8>
     ensures cause { result ≡ Err LogFault.Down → Rose (D.downs disk.old) (D.downs disk.new) }
     ensures counts { (D.downs disk.old ≤ D.downs disk.new) × (D.deads disk.old ≤ D.deads disk.new) }
 {
-    let Ok(()) = disk.sync() else {
-        return Err(LogFault::Down);
-    };
-    let file = match read_all(alloc, disk) {
-        Ok(file) => file,
-        Err(fault) => return Err(fault),
-    };
+    disk.sync()?;
+    let file = read_all(alloc, disk)?;
     if is_fresh(&file) {
-        return match make(disk, file.len()) {
-            Ok(()) => Ok((Vec::new(alloc), 0)),
-            Err(StoreFault::Down) => Err(LogFault::Down),
-            Err(StoreFault::NoMemory) => Err(LogFault::NoMemory),
-        };
+        make(disk, file.len())?;
+        return Ok((Vec::new(alloc), 0));
     }
     parse(alloc, &file)
 }
