@@ -1,19 +1,19 @@
 -- What whole segments print is a front of what the script prints.
-use Rattle.std.proofs.Common.{◌≡◌, ℕ, ◌+◌, ◌-◌, List, [], ◌∷◌, ◌++◌, length, take, drop, Bool, cond, true, false, ◌||◌, ◌⊎◌, inl, inr, refl, sym, ap, subst, ◌∙◌, append_assoc}
+use Rattle.std.proofs.Common.{◌≡◌, ℕ, ◌+◌, ◌-◌, List, [], ◌∷◌, ◌++◌, length, take, drop, Bool, cond, true, false, ◌||◌, ◌⊎◌, inl, inr, refl, sym, ap, subst, ◌∙◌, append_assoc, arith}
 use Rattle.std.proofs.Math.Seq.{take-append_seam}
 use Rattle.std.proofs.lemmas.List.{take-append-drop}
 use Rattle.std.proofs.lemmas.List.Concat.{flat_map-append}
 use Rattle.std.proofs.lemmas.Bool.{both_ways, or_from, or_left, or_right}
 use Rattle.std.proofs.lemmas.List.Folds.{list_any-append}
 use Rattle.std.specs.List.{list_any}
-use Rattle.dap_model.specs.Segments.{AreWholeSegments}
+use Rattle.dap_model.specs.Segments.{AreWholeSegments, TellsWholeSegments}
 use Rattle.vdaf_api.specs.Functions.{Functions}
 use Rattle.vdaf_api.specs.declared.kind.Kind.{Kind}
 use Rattle.dap_tasks.specs.Task.{PlainTask}
 use Rattle.dap_script.specs.declared.line.Line.{Line}
 use Rattle.dap_model.specs.Limits.{ends_segment, text_before, whole_segments}
 use Rattle.dap_model.specs.Printed.{spelling, text_of}
-use Rattle.dap_model.specs.Run.{model_text, printed_from, tasks_of}
+use Rattle.dap_model.specs.Run.{model_text, printed_from, state_after, tasks_of}
 use Rattle.dap_model.specs.State.{State, opening}
 use Rattle.dap_model.specs.Step.{step}
 use Rattle.dap_model.specs.declared.printed.Printed.{Printed}
@@ -43,6 +43,15 @@ printed_begin f s k (l ∷ more) rest =
 
 text_begins : (part whole : List Printed) → Begins part whole → Begins (text_of part) (text_of whole)
 text_begins part whole p = (text_of p.0, ap text_of p.1 ∙ flat_map-append spelling part p.0)
+
+-- what the rest prints follows on what the first lines print
+printed_then : (f : Kind → Functions) (s : State) (k n : ℕ) (first rest : List Line) → k + length first ≡ n
+    → printed_from f s k (first ++ rest) ≡ printed_from f s k first ++ printed_from f (state_after f s k first) n rest
+printed_then f s k n [] rest e = let here : k ≡ n = omega (arith, e) in ap (λ (m : ℕ). printed_from f s m rest) here
+printed_then f s k n (l ∷ more) rest e =
+    let after : State = (step f s k l).0 in
+    ap (λ p. (step f s k l).1 ++ p) (printed_then f after (k + 1) n more rest (omega (arith, e)))
+    ∙ sym (append_assoc (step f s k l).1 (printed_from f after (k + 1) more) (printed_from f (state_after f after (k + 1) more) n rest))
 
 pub text_before-front : (f : Kind → Functions) (given : List PlainTask) (lines : List Line) (number : ℕ)
     → (n : ℕ) × (text_before f given lines number ≡ take n (model_text f given lines))
@@ -100,3 +109,22 @@ segments_with l more h true false e o = alone h.whole
 pub segments-whole : (lines : List Line) → AreWholeSegments lines (whole_segments lines)
 segments-whole [] = record { rest = []; front = refl; whole = inl refl; open_end = refl }
 segments-whole (l ∷ more) = segments_with l more (segments-whole more) (ends_segment l) (list_any ends_segment more) refl refl
+
+-- ---- what is told before a line
+
+pub tells-segments : (f : Kind → Functions) (given : List PlainTask) (lines : List Line) (number : ℕ) → TellsWholeSegments f given lines number (text_before f given lines number)
+tells-segments f given lines number =
+    let s : State = opening (given ++ tasks_of lines) in
+    let upto : List Line = take (number - 1) lines in
+    let first : List Line = whole_segments upto in
+    let cut : Begins first lines = begins_again first upto lines (segments_begin upto) (drop (number - 1) lines, sym (take-append-drop (number - 1) lines)) in
+    record {
+      first = first;
+      rest = cut.0;
+      script = cut.1;
+      whole = segments-whole upto;
+      told = refl;
+      then_others = ap (λ (l : List Line). text_of (printed_from f s 1 l)) cut.1
+          ∙ ap text_of (printed_then f s 1 (length first + 1) first cut.0 (omega arith))
+          ∙ flat_map-append spelling (printed_from f s 1 first) (printed_from f (state_after f s 1 first) (length first + 1) cut.0);
+    }

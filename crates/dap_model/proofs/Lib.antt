@@ -1,9 +1,12 @@
 pub mod ChangeLaws
+pub mod CollectLaws
 pub mod CountLaws
 pub mod Fronts
 pub mod MomentLaws
 pub mod NameLemmas
+pub mod NumberLaws
 pub mod OfferLaws
+pub mod OfferingLaws
 pub mod OnceLaws
 pub mod PassLaws
 pub mod RepeatLaws

@@ -20,7 +20,7 @@ use Rattle.dap_model.specs.Step.{Outcome, after_judgement, offered}
 
 -- ---- lists
 
-contains_cases : {X : Type 0} → (y : X) (ys : List X) (x : X) → Contains (y ∷ ys) x → (y ≡ x) ⊎ Contains ys x
+pub contains_cases : {X : Type 0} → (y : X) (ys : List X) (x : X) → Contains (y ∷ ys) x → (y ≡ x) ⊎ Contains ys x
 contains_cases {X} y ys x c = elim (Contains-append_cases (y ∷ []) ys x c) [
   | inl first ↦ elim (Contains-push_cases [] y x first) [
     | inl none ↦ absurd (omega (arith, none.1))
@@ -149,7 +149,7 @@ closed_is s name start c =
     any_from (is_batch name start) s.collected (record { task = name; start = start }) c
     (and_from _ _ ((bytes_eq-Decides name name).1 refl) (eq-eqb start start refl))
 
-closed_not : (s : State) (name : List ℕ) (start : ℕ) → (Contains s.collected (record { task = name; start = start }) → ⊥) → is_collected s.collected name start ≡ false
+pub closed_not : (s : State) (name : List ℕ) (start : ℕ) → (Contains s.collected (record { task = name; start = start }) → ⊥) → is_collected s.collected name start ≡ false
 closed_not s name start none = go (is_collected s.collected name start) refl
   where
     go : (b : Bool) → is_collected s.collected name start ≡ b → b ≡ false

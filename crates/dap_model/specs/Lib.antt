@@ -1,7 +1,10 @@
 pub mod Changes
+pub mod Collections
 pub mod Counts
 pub mod Limits
 pub mod Moments
+pub mod Numbers
+pub mod Offering
 pub mod Offers
 pub mod Passes
 pub mod Printed

@@ -1,6 +1,6 @@
 //! Laws of the plain model, in the words of who reads its output.
 
-ghost use Rattle.std.specs.Prelude.{◌≡◌, ◌+◌, ◌%◌, ℕ, List, [], ◌∷◌, ◌++◌, Some, false, take};
+ghost use Rattle.std.specs.Prelude.{◌≡◌, ◌+◌, ◌%◌, ℕ, List, [], ◌∷◌, ◌++◌, Some, false, take, filter_map};
 ghost use Rattle.std.specs.List.{AllZip, find, list_any};
 ghost use Rattle.vdaf_api.specs.Functions.{Functions};
 ghost use Rattle.vdaf_api.specs.declared.answer.Collected.{Collected as Counts};
@@ -11,10 +11,13 @@ ghost use Rattle.dap_tasks.specs.Task.{PlainTask, has_name};
 ghost use Rattle.dap_script.specs.declared.line.Line.{Line as PlainLine};
 ghost use Rattle.dap_script.specs.declared.line.Line.TheVariants.{Collect, Measure, Upload};
 ghost use Rattle.dap_model.specs.Changes.{AreDistinct, ChangesNamed};
+ghost use Rattle.dap_model.specs.Collections.{CollectsByTheFirstCause};
 ghost use Rattle.dap_model.specs.Counts.{AreTaken, collects, counted, is_collection};
-ghost use Rattle.dap_model.specs.Limits.{text_before, whole_segments};
+ghost use Rattle.dap_model.specs.Limits.{report_offered, reports_offered, text_before, whole_segments};
 ghost use Rattle.dap_model.specs.Moments.{IsGreatest, times_of};
-ghost use Rattle.dap_model.specs.Segments.{AreWholeSegments};
+ghost use Rattle.dap_model.specs.Numbers.{PrintsByItsNumber};
+ghost use Rattle.dap_model.specs.Offering.{CountsWhatIsJudged};
+ghost use Rattle.dap_model.specs.Segments.{AreWholeSegments, TellsWholeSegments};
 ghost use Rattle.dap_model.specs.Offers.{IsJudged};
 ghost use Rattle.dap_model.specs.Passes.{IsExact};
 ghost use Rattle.dap_model.specs.declared.limits.Limits.{Limits as PlainLimits};
@@ -92,6 +95,15 @@ pub fn offered_reports_are_judged()
         → AreDistinct state.accepted → IsJudged state number task r (offered state number task r) }
 {}
 
+/// A law: a collection is refused `task` where its name is no known task's, else `start` where the start is no multiple of the
+/// precision. Else the batch is collected where it was before, or where enough of its accepted reports have a content: each of
+/// its reports is counted once, as a report or as rejected, and the batch takes no more reports. Else how many have a content
+/// is told, and the batch stays open.
+pub fn collections_go_by_the_first_cause()
+    ensures { (f : Kind → Functions) (state : State) (number : ℕ) (name : List ℕ) (start : ℕ)
+        → CollectsByTheFirstCause f state number name start (step f state number (Collect name start)) }
+{}
+
 /// A law: once a batch was collected, each later collection of it prints the same line, whatever the lines between do.
 pub fn collections_are_repeated()
     ensures { (f : Kind → Functions) (state : State) (number later : ℕ) (name : List ℕ) (start : ℕ) (what : Counts) (lines : List PlainLine)
@@ -110,6 +122,28 @@ pub fn moments_are_the_greatest()
 /// is the first with which one is passed, and limit 2 is told where both are passed with it.
 pub fn passed_limits_are_exact()
     ensures { (f : Kind → Functions) (limits : PlainLimits) (given : List PlainTask) (lines : List PlainLine) → IsExact f limits given lines }
+{}
+
+/// A law: a line's report counts for the limits exactly where it is judged: that of a measurement of a known task with shares,
+/// and that of uploaded bytes which spell one of a known task, also where it is barred or known already. Reports count in the
+/// order of their lines.
+pub fn lines_offer_what_is_judged()
+    ensures line { (f : Kind → Functions) (state : State) (number : ℕ) (line : PlainLine) → CountsWhatIsJudged f state number line }
+    ensures lines { (f : Kind → Functions) (tasks : List PlainTask) (lines : List PlainLine)
+        → reports_offered f tasks lines ≡ filter_map (report_offered f tasks) lines }
+{}
+
+/// A law: each line of a script prints between what the lines before and behind it print, as the line of its number counted
+/// from 1, and a refusal names that number.
+pub fn lines_print_by_their_number()
+    ensures { (f : Kind → Functions) (given : List PlainTask) (before : List PlainLine) (line : PlainLine) (behind : List PlainLine)
+        → PrintsByItsNumber f given before line behind }
+{}
+
+/// A law: what is told before a line is what the segments print that ended before it. Not a line more is told, and none less.
+pub fn whole_segments_are_told()
+    ensures { (f : Kind → Functions) (given : List PlainTask) (lines : List PlainLine) (number : ℕ)
+        → TellsWholeSegments f given lines number (text_before f given lines number) }
 {}
 
 /// A law: what the whole segments before a line print is a front of what the script prints.

@@ -1,0 +1,5 @@
+use Rattle.dap_model.proofs.Fronts.{tells-segments}
+use Rattle.dap_model.proofs.laws.whole_segments_are_told.Goals as goal
+
+pub returns : goal.returns
+returns c f given lines number = tells-segments f given lines number

@@ -1,0 +1,29 @@
+-- Each line of a script prints as the line of its number, counted from 1.
+use Rattle.std.specs.Prelude.{◌≡◌, ◌+◌, ℕ, List, ◌∷◌, ◌++◌, length}
+use Rattle.std.specs.List.{Contains}
+use Rattle.vdaf_api.specs.Functions.{Functions}
+use Rattle.vdaf_api.specs.declared.kind.Kind.{Kind}
+use Rattle.dap_tasks.specs.Task.{PlainTask}
+use Rattle.dap_tasks.specs.declared.cause.Cause.{Cause}
+use Rattle.dap_script.specs.declared.line.Line.{Line}
+use Rattle.dap_model.specs.Printed.{text_of}
+use Rattle.dap_model.specs.Run.{model_text, printed_from, state_after, tasks_of}
+use Rattle.dap_model.specs.State.{State, opening}
+use Rattle.dap_model.specs.Step.{Outcome, step}
+use Rattle.dap_model.specs.declared.printed.Printed.{Printed}
+use Rattle.dap_model.specs.declared.printed.Printed.TheVariants.{Refused}
+
+-- a refusal among the printed lines is that of the line of this number
+abbrev pub AreOfLine : ℕ → List Printed → Type 0
+AreOfLine number printed = (n : ℕ) (why : Cause) → Contains printed (Refused n why) → n ≡ number
+
+-- what the line behind these does in the script, as the line of its number
+abbrev pub in_its_place : (Kind → Functions) → State → List Line → Line → Outcome
+in_its_place f first before l = step f (state_after f first 1 before) (length before + 1) l
+
+-- The script prints what the lines before this one print, then what this one prints as the line of its number, then what the
+-- lines behind it print.
+pub record PrintsByItsNumber (f : Kind → Functions) (given : List PlainTask) (before : List Line) (l : Line) (behind : List Line) : Type 0 where
+  pub text : (let first = opening (given ++ tasks_of (before ++ l ∷ behind)) in let own = in_its_place f first before l in
+      model_text f given (before ++ l ∷ behind) ≡ text_of (printed_from f first 1 before ++ own.1 ++ printed_from f own.0 (length before + 2) behind))
+  pub numbered : AreOfLine (length before + 1) (in_its_place f (opening (given ++ tasks_of (before ++ l ∷ behind))) before l).1
