@@ -1,7 +1,11 @@
 //! What is kept of one batch.
 
+ghost use Rattle.std.specs.Prelude.{◌≡◌};
+ghost use Rattle.batch_shards.specs.declared.bucket.BucketFault.TheVariants.{NoMemory};
+
 use dap_batch::Checksum;
 use dap_bytes::Bytes;
+use std::alloc::AllocError;
 use thiserror::Error;
 
 /// Why a report wasn't counted.
@@ -13,6 +17,14 @@ pub enum BucketFault {
     /// There was no memory for it.
     #[error("no memory")]
     NoMemory,
+}
+
+impl From<AllocError> for BucketFault {
+    ghost from_gives = { λ _ fault. fault ≡ NoMemory };
+
+    fn from(_: AllocError) -> Self {
+        BucketFault::NoMemory
+    }
 }
 
 /// What is kept of one batch. Its numbers stand still at their type's end.

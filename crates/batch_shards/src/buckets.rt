@@ -68,10 +68,8 @@ impl Buckets {
             return bucket.add(self.alloc, &space, id, out);
         }
         let mut bucket = Bucket::new();
-        match bucket.add(self.alloc, &space, id, out) {
-            Ok(()) => self.keep(name, start, bucket),
-            Err(fault) => Err(fault),
-        }
+        bucket.add(self.alloc, &space, id, out)?;
+        self.keep(name, start, bucket)
     }
 
     /// Counts a rejected report of a batch. `Closed` exactly where the batch is closed. A refusal changes nothing.
@@ -85,10 +83,8 @@ impl Buckets {
             return bucket.reject();
         }
         let mut bucket = Bucket::new();
-        match bucket.reject() {
-            Ok(()) => self.keep(name, start, bucket),
-            Err(fault) => Err(fault),
-        }
+        bucket.reject()?;
+        self.keep(name, start, bucket)
     }
 
     /// The numbers of a batch, zeros where nothing is held. They are below 2^32. It takes no memory.

@@ -45,10 +45,7 @@ impl Bucket {
         if self.closed {
             return Err(BucketFault::Closed);
         }
-        match with_share(alloc, space, self.sum.take(), out) {
-            Ok(sum) => self.sum = Some(sum),
-            Err(_) => return Err(BucketFault::NoMemory),
-        }
+        self.sum = Some(with_share(alloc, space, self.sum.take(), out)?);
         self.reports = self.reports.saturating_add(1);
         self.checksum.add(id);
         Ok(())

@@ -50,14 +50,10 @@ impl Seal for CmacSeal {
             return Err(OpenFault::Tag);
         }
         let (ciphertext, given) = bytes.split_at(bytes.len() - TAG_LEN);
-        match tag_of(alloc, &self.keys, self.role, head, ciphertext) {
-            Ok(tag) if tag.as_slice() == given => {}
-            Ok(_) => return Err(OpenFault::Tag),
-            Err(_) => return Err(OpenFault::NoMemory),
+        let tag = tag_of(alloc, &self.keys, self.role, head, ciphertext)?;
+        if tag.as_slice() != given {
+            return Err(OpenFault::Tag);
         }
-        match covered(alloc, &self.keys, self.role, &head.id, ciphertext) {
-            Ok(plain) => Ok(plain),
-            Err(_) => Err(OpenFault::NoMemory),
-        }
+        Ok(covered(alloc, &self.keys, self.role, &head.id, ciphertext)?)
     }
 }

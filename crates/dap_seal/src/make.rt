@@ -36,18 +36,9 @@ pub fn make_report<V: Vdaf>(
     ensures allowed { IfOk result (λ _. IfSome (honest_report (V.functions vdaf.now) task.now id.now time m seed.now)
         (λ r. IsTrue (report.allowed r))) }
 {
-    let shares = match vdaf.shard(alloc, id, m, seed) {
-        Ok(shares) => shares,
-        Err(fault) => return Err(fault),
-    };
-    let made = match sealed_report(alloc, task, id, time, shares) {
-        Ok(made) => made,
-        Err(_) => return Err(ShardFault::NoMemory),
-    };
-    match write_report(alloc, &made) {
-        Ok(bytes) => Ok(bytes),
-        Err(_) => Err(ShardFault::NoMemory),
-    }
+    let shares = vdaf.shard(alloc, id, m, seed)?;
+    let made = sealed_report(alloc, task, id, time, shares)?;
+    Ok(write_report(alloc, &made)?)
 }
 
 /// The report of shares, each half sealed for its aggregator.

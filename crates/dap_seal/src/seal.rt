@@ -2,6 +2,7 @@
 
 ghost use Rattle.std.specs.Prelude.{◌≡◌, IfOk, List, Option, Some, ℕ};
 ghost use Rattle.dap_seal.specs.declared.head.Head.{Head};
+ghost use Rattle.dap_seal.specs.declared.seal.OpenFault.TheVariants.{NoMemory};
 ghost use Rattle.dap_seal.specs.Answered.{Opens};
 
 use crate::head::Head;
@@ -17,6 +18,14 @@ pub enum OpenFault {
     /// There was no memory for the plain bytes, or for the text of the tag.
     #[error("no memory")]
     NoMemory,
+}
+
+impl From<AllocError> for OpenFault {
+    ghost from_gives = { λ _ fault. fault ≡ NoMemory };
+
+    fn from(_: AllocError) -> Self {
+        OpenFault::NoMemory
+    }
 }
 
 /// How shares are sealed for one of the two aggregators.

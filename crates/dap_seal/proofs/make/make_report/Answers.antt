@@ -19,16 +19,16 @@ made-allowed t id time parts made is name is_id in_time short = honest-allowed t
 
 pub write_report-requires : goal.write_report-requires
 write_report-requires g c =
-    let parts : Parts = parts_of c.in-Ok.shares in
-    let is = c.in-Ok-sealed_report.ensures.report in
-    let short : PartsAreShort parts = (g.met.V.Vdaf.laws c.args.vdaf.now).parts c.args.id.now c.args.m c.args.seed.now parts c.in-Ok.ensures in
+    let parts : Parts = parts_of c.in_ok-shares.shares in
+    let is = c.in_ok-made.ensures.report in
+    let short : PartsAreShort parts = (g.met.V.Vdaf.laws c.args.vdaf.now).parts c.args.id.now c.args.m c.args.seed.now parts c.in_ok-shares.ensures in
     subst (λ (r : Report). IsTrue (report.allowed r)) (sym is)
-    (made-allowed c.args.task.now c.args.id.now c.args.time parts c.in-Ok-sealed_report.made is c.in-Ok-sealed_report.ensures.name (omega arith) c.requires short)
+    (made-allowed c.args.task.now c.args.id.now c.args.time parts c.in_ok-made.made is c.in_ok-made.ensures.name (omega arith) c.requires short)
 
-pub returns-in-Ok-write_report-clause-allowed : goal.returns-in-Ok-write_report-clause-allowed
-returns-in-Ok-write_report-clause-allowed g c =
-    let parts : Parts = parts_of c.in-Ok.shares in
-    let short : PartsAreShort parts = (g.met.V.Vdaf.laws c.args.vdaf.now).parts c.args.id.now c.args.m c.args.seed.now parts c.in-Ok.ensures in
+pub returns-clause-allowed : goal.returns-clause-allowed
+returns-clause-allowed g c =
+    let parts : Parts = parts_of c.in_ok-shares.shares in
+    let short : PartsAreShort parts = (g.met.V.Vdaf.laws c.args.vdaf.now).parts c.args.id.now c.args.m c.args.seed.now parts c.in_ok-shares.ensures in
     subst (λ (o : Option Report). IfSome o (λ r. IsTrue (report.allowed r)))
-    (sym (ap (option_map (report_of c.args.task.now c.args.id.now c.args.time)) c.in-Ok.ensures))
-    (made-allowed c.args.task.now c.args.id.now c.args.time parts c.in-Ok-sealed_report.made c.in-Ok-sealed_report.ensures.report c.in-Ok-sealed_report.ensures.name (omega arith) c.requires short)
+    (sym (ap (option_map (report_of c.args.task.now c.args.id.now c.args.time)) c.in_ok-shares.ensures))
+    (made-allowed c.args.task.now c.args.id.now c.args.time parts c.in_ok-made.made c.in_ok-made.ensures.report c.in_ok-made.ensures.name (omega arith) c.requires short)

@@ -1,4 +1,5 @@
 use Rattle.std.proofs.Common.{◌≡◌, Err, sym, ap, ◌∙◌, subst}
+use Rattle.std.proofs.lemmas.Result.{err_from_is_err_and}
 use Rattle.std.specs.FinMap as map
 use Rattle.batch_shards.specs.declared.bucket.Bucket.{Bucket}
 use Rattle.batch_shards.specs.Bucket.{with_report, nothing, IsSum, Opens}
@@ -39,13 +40,13 @@ returns-in-Some-clause-err g c =
     rewritten c.self.inside.buckets.entries (c.get_mut.follows.lender wrote).entries c.args.self.now c.args.name.now c.args.start c.in-Some.bucket.now wrote c.self.view_is
     c.in-Some.ensures.value (c.get_mut.follows.holds wrote).0 e) c.add.ensures.err
 
-pub returns-in-Ok-clause-closed : goal.returns-in-Ok-clause-closed
-returns-in-Ok-clause-closed g c =
+pub returns-clause-closed : goal.returns-clause-closed
+returns-clause-closed g c =
     opens-new c.keep.result (bucket_of c.args.self.now c.args.name.now c.args.start)
     (not_held c.self.inside.buckets.entries c.args.self.now c.args.name.now c.args.start c.self.view_is c.in_default.ensures.value) c.keep.ensures.memory
 
-pub returns-in-Ok-clause-ok : goal.returns-in-Ok-clause-ok
-returns-in-Ok-clause-ok g c =
+pub returns-clause-ok : goal.returns-clause-ok
+returns-clause-ok g c =
     let now = c.args.self.now in
     let name = c.args.name.now in
     let start = c.args.start in
@@ -56,15 +57,16 @@ returns-in-Ok-clause-ok g c =
     e
     ∙ ap (λ m. changed m name start c.add-2.new.self) (not_lent c.self.inside.buckets c.get_mut.follows.lender-at-none now c.get_mut.follows.holds-at-none c.self.view_is)
     ∙ ap (changed now name start) (
-    c.in-Ok.ensures.ok ∙ ap (λ s. with_report s id out c.new-bucket.result) c.space-space.ensures
+    c.in_ok-add.ensures.ok ∙ ap (λ s. with_report s id out c.new-bucket.result) c.space-space.ensures
     ∙ ap (with_report (g.V.Vdaf.functions c.args.vdaf.now).space id out) (c.new-bucket.ensures ∙ sym none)))
     c.keep.ensures.ok
 
-pub returns-in-Err-clause-closed : goal.returns-in-Err-clause-closed
-returns-in-Err-clause-closed g c =
+pub returns-in_err-add-clause-closed : goal.returns-in_err-add-clause-closed
+returns-in_err-add-clause-closed g c =
     let none : bucket_of c.args.self.now c.args.name.now c.args.start ≡ nothing =
     not_held c.self.inside.buckets.entries c.args.self.now c.args.name.now c.args.start c.self.view_is c.in_default.ensures.value in
-    subst (λ (b : Bucket). Opens (Err c.in-Err.fault) b.closed) (c.new-bucket.ensures ∙ sym none) c.in-Err.ensures.closed
+    let gives = err_from_is_err_and c.from_residual.result c.from_residual.ensures.1 in
+    rw (gives.1, gives.2) (subst (λ (b : Bucket). Opens (Err c.in_err-add.field-0.0) b.closed) (c.new-bucket.ensures ∙ sym none) c.in_err-add.ensures.closed)
 
 pub returns-in-Some-clause-held_again : goal.returns-in-Some-clause-held_again
 returns-in-Some-clause-held_again g c =
@@ -77,8 +79,8 @@ returns-in-Some-clause-held_again g c =
     subst (λ (b : Bucket). IsSum (g.V.Vdaf.functions c.args.vdaf.now).space b.sum) (sym (ap (λ m. bucket_of m name start) after ∙ bucket_of-changed now name start wrote))
     (subst (λ s. IsSum s wrote.sum) c.space-space.ensures c.add.ensures.held_again)
 
-pub returns-in-Ok-clause-held_again : goal.returns-in-Ok-clause-held_again
-returns-in-Ok-clause-held_again g c =
+pub returns-clause-held_again : goal.returns-clause-held_again
+returns-clause-held_again g c =
     let space = (g.V.Vdaf.functions c.args.vdaf.now).space in
     let now = c.args.self.now in
     let name = c.args.name.now in
@@ -88,4 +90,4 @@ returns-in-Ok-clause-held_again g c =
     let none : bucket_of before name start ≡ nothing =
     ap (λ m. bucket_of m name start) same ∙ not_held c.self.inside.buckets.entries now name start c.self.view_is c.in_default.ensures.value in
     kept-out space c.keep.result before c.keep.new.self name start c.add-2.new.self c.keep.ensures.ok c.keep.ensures.err
-    (subst (λ s. IsSum s c.add-2.new.self.sum) c.space-space.ensures c.in-Ok.ensures.held_again) (subst (λ (b : Bucket). IsSum space b.sum) (sym none) tt)
+    (subst (λ s. IsSum s c.add-2.new.self.sum) c.space-space.ensures c.in_ok-add.ensures.held_again) (subst (λ (b : Bucket). IsSum space b.sum) (sym none) tt)

@@ -1,4 +1,5 @@
 use Rattle.std.proofs.Common.{◌≡◌, Err, sym, ap, ◌∙◌, refl, subst}
+use Rattle.std.proofs.lemmas.Result.{err_from_is_err_and}
 use Rattle.batch_shards.specs.declared.bucket.Bucket.{Bucket}
 use Rattle.batch_shards.specs.Bucket.{with_rejected, nothing, Opens}
 use Rattle.batch_shards.specs.Batches.{bucket_of, changed}
@@ -29,13 +30,13 @@ returns-in-Some-clause-err c =
     rewritten c.self.inside.buckets.entries (c.get_mut.follows.lender wrote).entries c.args.self.now c.args.name.now c.args.start c.in-Some.bucket.now wrote c.self.view_is
     c.in-Some.ensures.value (c.get_mut.follows.holds wrote).0 e) c.reject.ensures.err
 
-pub returns-in-Ok-clause-closed : goal.returns-in-Ok-clause-closed
-returns-in-Ok-clause-closed c =
+pub returns-clause-closed : goal.returns-clause-closed
+returns-clause-closed c =
     opens-new c.keep.result (bucket_of c.args.self.now c.args.name.now c.args.start)
     (not_held c.self.inside.buckets.entries c.args.self.now c.args.name.now c.args.start c.self.view_is c.in_default.ensures.value) c.keep.ensures.memory
 
-pub returns-in-Ok-clause-ok : goal.returns-in-Ok-clause-ok
-returns-in-Ok-clause-ok c =
+pub returns-clause-ok : goal.returns-clause-ok
+returns-clause-ok c =
     let now = c.args.self.now in
     let name = c.args.name.now in
     let start = c.args.start in
@@ -43,21 +44,22 @@ returns-in-Ok-clause-ok c =
     on-ok c.keep.result (λ e.
     e
     ∙ ap (λ m. changed m name start c.reject-2.new.self) (not_lent c.self.inside.buckets c.get_mut.follows.lender-at-none now c.get_mut.follows.holds-at-none c.self.view_is)
-    ∙ ap (changed now name start) (c.in-Ok.ensures.ok ∙ ap with_rejected (c.new-bucket.ensures ∙ sym none))) c.keep.ensures.ok
+    ∙ ap (changed now name start) (c.in_ok-reject.ensures.ok ∙ ap with_rejected (c.new-bucket.ensures ∙ sym none))) c.keep.ensures.ok
 
-pub returns-in-Err-clause-closed : goal.returns-in-Err-clause-closed
-returns-in-Err-clause-closed c =
+pub returns-in_err-reject-clause-closed : goal.returns-in_err-reject-clause-closed
+returns-in_err-reject-clause-closed c =
     let none : bucket_of c.args.self.now c.args.name.now c.args.start ≡ nothing =
     not_held c.self.inside.buckets.entries c.args.self.now c.args.name.now c.args.start c.self.view_is c.in_default.ensures.value in
-    subst (λ (b : Bucket). Opens (Err c.in-Err.fault) b.closed) (c.new-bucket.ensures ∙ sym none) c.in-Err.ensures.closed
+    let gives = err_from_is_err_and c.from_residual.result c.from_residual.ensures.1 in
+    rw (gives.1, gives.2) (subst (λ (b : Bucket). Opens (Err c.in_err-reject.field-0.0) b.closed) (c.new-bucket.ensures ∙ sym none) c.in_err-reject.ensures.closed)
 
 pub returns-in-Some-clause-sum : goal.returns-in-Some-clause-sum
 returns-in-Some-clause-sum c =
     kept-sum c.reject.result c.args.self.now _ c.args.name.now c.args.start (with_rejected (bucket_of c.args.self.now c.args.name.now c.args.start))
     (returns-in-Some-clause-ok c) (returns-in-Some-clause-err c) refl
 
-pub returns-in-Ok-clause-sum : goal.returns-in-Ok-clause-sum
-returns-in-Ok-clause-sum c =
+pub returns-clause-sum : goal.returns-clause-sum
+returns-clause-sum c =
     let now = c.args.self.now in
-    kept-sum c.keep.result now c.keep.new.self c.args.name.now c.args.start (with_rejected (bucket_of now c.args.name.now c.args.start)) (returns-in-Ok-clause-ok c)
+    kept-sum c.keep.result now c.keep.new.self c.args.name.now c.args.start (with_rejected (bucket_of now c.args.name.now c.args.start)) (returns-clause-ok c)
     (on-err c.keep.result (λ e. e ∙ not_lent c.self.inside.buckets c.get_mut.follows.lender-at-none now c.get_mut.follows.holds-at-none c.self.view_is) c.keep.ensures.err) refl
