@@ -1,13 +1,10 @@
 -- Honest reports, as their bytes.
-use Rattle.std.proofs.Common.{◌≡◌, ℕ, ◌≤◌, List, length, Option, Some, None, refl, sym, ap, subst, ◌∙◌}
-use Rattle.std.specs.Prelude.{IsTrue}
+use Rattle.std.proofs.Common.{◌≡◌, ℕ, List, Option, Some, None, refl, sym, ap, subst, ◌∙◌}
+use Rattle.std.specs.Prelude.{IsTrue, IfSome}
 use Rattle.std.specs.Option.{option_map}
-use Rattle.dap_bytes.specs.Name.{IsName}
 use Rattle.dap_messages.specs.Messages.{report}
 use Rattle.dap_messages.specs.declared.report.Report.{Report}
 use Rattle.vdaf_api.specs.Functions.{Functions, Parts}
-use Rattle.vdaf_api.specs.Laws.{FunctionLaws}
-use Rattle.dap_seal.proofs.Honest.{honest-allowed}
 use Rattle.dap_seal.specs.Reports.{honest_report, report_of}
 use Rattle.dap_tasks.specs.Task.{PlainTask}
 use Rattle.dap_model.specs.Step.{name_in, report_in}
@@ -20,16 +17,6 @@ report_is a b e = cc
 text_is : (a b : List ℕ) → (let x : Option (List ℕ) = Some a in x) ≡ Some b → a ≡ b
 text_is a b e = cc
 
-allowed_made : {f : Functions} → FunctionLaws f → (t : PlainTask) (id : List ℕ) (time m : ℕ) (seed : List ℕ) (r : Report)
-    → IsName t.name → length id ≡ 16 → time ≤ 999999999999999999 → honest_report f t id time m seed ≡ Some r → IsTrue (report.allowed r)
-allowed_made {f} laws t id time m seed r name is_id in_time e = go (f.shard id m seed) refl e
-  where
-    go : (o : Option Parts) → f.shard id m seed ≡ o → option_map (report_of t id time) o ≡ Some r → IsTrue (report.allowed r)
-    go None s e = absurd cc
-    go (Some p) s e =
-        subst (λ (r : Report). IsTrue (report.allowed r)) (report_is (report_of t id time p) r e)
-        (honest-allowed t id time p name is_id in_time (laws.parts id m seed p s))
-
 name_made : (f : Functions) (t : PlainTask) (id : List ℕ) (time m : ℕ) (seed : List ℕ) (r : Report) → honest_report f t id time m seed ≡ Some r → r.name ≡ t.name
 name_made f t id time m seed r e = go (f.shard id m seed) e
   where
@@ -38,15 +25,15 @@ name_made f t id time m seed r e = go (f.shard id m seed) e
     go (Some p) e = ap (λ (r : Report). r.name) (sym (report_is (report_of t id time p) r e))
 
 -- bytes that are those of the honest report
-pub made_bytes : {f : Functions} → FunctionLaws f → (t : PlainTask) (id : List ℕ) (time m : ℕ) (seed bytes : List ℕ)
-    → IsName t.name → length id ≡ 16 → time ≤ 999999999999999999 → option_map report.spell (honest_report f t id time m seed) ≡ Some bytes
+pub made_bytes : (f : Functions) (t : PlainTask) (id : List ℕ) (time m : ℕ) (seed bytes : List ℕ)
+    → option_map report.spell (honest_report f t id time m seed) ≡ Some bytes → IfSome (honest_report f t id time m seed) (λ r. IsTrue (report.allowed r))
     → AreBytesOf t.name (honest_report f t id time m seed) bytes
-made_bytes {f} laws t id time m seed bytes name is_id in_time e = go (honest_report f t id time m seed) refl e
+made_bytes f t id time m seed bytes e allowed = go (honest_report f t id time m seed) refl e
   where
     go : (o : Option Report) → honest_report f t id time m seed ≡ o → option_map report.spell o ≡ Some bytes → AreBytesOf t.name (honest_report f t id time m seed) bytes
     go None s e = absurd cc
     go (Some r) s e =
-        let allowed : IsTrue (report.allowed r) = allowed_made laws t id time m seed r name is_id in_time s in
+        let allowed : IsTrue (report.allowed r) = subst (λ (o : Option Report). IfSome o (λ r. IsTrue (report.allowed r))) s allowed in
         let is : report.spell r ≡ bytes = text_is (report.spell r) bytes e in
         record {
           made = r;
