@@ -1,3 +1,4 @@
+pub mod Fields
 pub mod Elements
 pub mod Lengths
 pub mod ReadHalves

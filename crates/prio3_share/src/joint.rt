@@ -97,17 +97,9 @@ pub(crate) fn joint_of<C: Circuit>(
             randomness: Vec::new(alloc),
         });
     }
-    let Ok(parts) = both_parts(alloc, kind, id, keys, input) else {
-        return Err(ShardFault::NoMemory);
-    };
-    let Ok(seed) = joint_seed_of(alloc, kind, &parts.leader, &parts.helper) else {
-        return Err(ShardFault::NoMemory);
-    };
-    let Ok(public) = joined(alloc, &parts.leader, &parts.helper) else {
-        return Err(ShardFault::NoMemory);
-    };
-    match drawn(alloc, kind, &seed, Usage::JointRandomness, c.joint_len()) {
-        Ok(randomness) => Ok(Joint { public, randomness }),
-        Err(fault) => Err(fault),
-    }
+    let parts = both_parts(alloc, kind, id, keys, input)?;
+    let seed = joint_seed_of(alloc, kind, &parts.leader, &parts.helper)?;
+    let public = joined(alloc, &parts.leader, &parts.helper)?;
+    let randomness = drawn(alloc, kind, &seed, Usage::JointRandomness, c.joint_len())?;
+    Ok(Joint { public, randomness })
 }

@@ -22,6 +22,7 @@ use std::alloc::{AllocError, Global};
 use vdaf_api::{ShardFault, Shares};
 
 /// The proof of an input in two halves: `Spent` exactly where the drawing of the wire seeds or of the helper's half is.
+#[tactic(auto, unfolding(crate::specs::Steps::proof_halved))]
 fn proof_halves<C: Circuit>(
     alloc: Global,
     c: &C,
@@ -34,13 +35,8 @@ fn proof_halves<C: Circuit>(
     requires joint { length joint.now ≡ (C.shape c.now).joint_len }
     ensures { Splits seen result (proof_halved ⟦<C::F as Based>⟧.base (C.shape c.now) kind keys.now x.now) }
 {
-    let seeds = match drawn(alloc, kind, &keys.wires, Usage::WireSeeds, c.arity()) {
-        Ok(seeds) => seeds,
-        Err(fault) => return Err(fault),
-    };
-    let Ok(proof) = prove(alloc, c, x, &seeds, joint) else {
-        return Err(ShardFault::NoMemory);
-    };
+    let seeds = drawn(alloc, kind, &keys.wires, Usage::WireSeeds, c.arity())?;
+    let proof = prove(alloc, c, x, &seeds, joint)?;
     halves_of(alloc, kind, &keys.proof, Usage::HelperProof, &proof)
 }
 
@@ -68,6 +64,7 @@ fn shares_of<C: Circuit>(
 }
 
 /// The shares of an input under the keys of a seed.
+#[tactic(auto, unfolding(crate::specs::Steps::sharing_with))]
 fn share_with<C: Circuit>(
     alloc: Global,
     c: &C,
@@ -79,22 +76,10 @@ fn share_with<C: Circuit>(
     requires { length x.now ≡ (C.shape c.now).input_len }
     ensures { Splits parts_of result (sharing_with ⟦<C::F as Based>⟧.base (C.shape c.now) kind id.now x.now keys.now) }
 {
-    let input = match halves_of(alloc, kind, &keys.input, Usage::HelperInput, x) {
-        Ok(input) => input,
-        Err(fault) => return Err(fault),
-    };
-    let joint = match joint_of(alloc, c, kind, id, keys, &input) {
-        Ok(joint) => joint,
-        Err(fault) => return Err(fault),
-    };
-    let proof = match proof_halves(alloc, c, kind, keys, x, &joint.randomness) {
-        Ok(proof) => proof,
-        Err(fault) => return Err(fault),
-    };
-    match shares_of(alloc, c, keys, &input, &proof, joint.public) {
-        Ok(shares) => Ok(shares),
-        Err(_) => Err(ShardFault::NoMemory),
-    }
+    let input = halves_of(alloc, kind, &keys.input, Usage::HelperInput, x)?;
+    let joint = joint_of(alloc, c, kind, id, keys, &input)?;
+    let proof = proof_halves(alloc, c, kind, keys, x, &joint.randomness)?;
+    Ok(shares_of(alloc, c, keys, &input, &proof, joint.public)?)
 }
 
 /// The shares of an input of the circuit, whether or not it keeps the circuit's rules: an aggregator refuses the others.
@@ -111,14 +96,13 @@ pub fn shard_input<C: Circuit>(
     requires { length x.now ≡ (C.shape c.now).input_len }
     ensures { Splits parts_of result (sharing ⟦<C::F as Based>⟧.base (C.shape c.now) kind id.now x.now seed.now) }
 {
-    match keys_of(alloc, kind, seed) {
-        Ok(keys) => share_with(alloc, c, kind, id, x, &keys),
-        Err(_) => Err(ShardFault::NoMemory),
-    }
+    let keys = keys_of(alloc, kind, seed)?;
+    share_with(alloc, c, kind, id, x, &keys)
 }
 
 /// The shares of a measurement: those of its encoding. `BadValue` exactly where it isn't one of the kind, and `Spent`
 /// exactly where it is and a drawing is spent.
+#[tactic(auto, unfolding(crate::specs::Sharing::shard))]
 pub fn shard<C: Circuit>(
     alloc: Global,
     c: &C,

@@ -59,12 +59,7 @@ pub(crate) fn halves_of<F: Field>(
     requires { length whole.now ≤ 8192 }
     ensures { Splits seen result (halved ⟦<F as Based>⟧.base kind key.now usage (length whole.now) whole.now) }
 {
-    let helper = match drawn(alloc, kind, key, usage, whole.len()) {
-        Ok(helper) => helper,
-        Err(fault) => return Err(fault),
-    };
-    match differences(alloc, whole, &helper) {
-        Ok(leader) => Ok(Halves { leader, helper }),
-        Err(_) => Err(ShardFault::NoMemory),
-    }
+    let helper = drawn(alloc, kind, key, usage, whole.len())?;
+    let leader = differences(alloc, whole, &helper)?;
+    Ok(Halves { leader, helper })
 }

@@ -1,44 +1,21 @@
-use Rattle.std.proofs.Common.{◌≡◌, ℕ, false, Some, sym, ap, ◌∙◌, subst}
-use Rattle.std.specs.Prelude.{nat_lt}
-use Rattle.prio3_share.specs.Base.{base_of}
-use Rattle.prio3_share.specs.Sharing.{has_joint}
-use Rattle.prio3_share.specs.Splits.{Faults}
-use Rattle.prio3_share.specs.Steps.{left, right}
-use Rattle.prio3_share.specs.Seen.{seen}
-use Rattle.prio3_share.proofs.Lengths.{joint-none}
+use Rattle.std.proofs.Common.{rules, Some, sym, ap, ◌∙◌, subst}
+use Rattle.aes_cmac_prg.proofs.Drawing.{drawn-none}
+use Rattle.prio3_share.specs.Splits.{Splits}
+use Rattle.prio3_share.proofs.Fields.{base}
 use Rattle.prio3_share.proofs.Shared.{joint-is}
 use Rattle.prio3_share.proofs.joint.joint_of.Goals as goal
 
 pub returns-then-joint_len-eq0-clause-randomness : goal.returns-then-joint_len-eq0-clause-randomness
 returns-then-joint_len-eq0-clause-randomness g c =
-    let F = g.C.F.Field in
-    let b = base_of F.ring F.half_of F.root_of F.number F.residue F.MODULUS F.WIDTH in
-    let shape = g.C.Circuit.shape c.args.c.now in
-    let kind : ℕ = c.args.kind in
-    let halves = seen c.args.input.now in
-    let none : has_joint shape ≡ false = ap (nat_lt 0) (sym c.joint_len.ensures ∙ c.if-joint_len-eq0.true) in
-    joint-none b shape kind (left b shape kind c.args.id.now c.args.keys.now halves) (right b shape kind c.args.id.now c.args.keys.now halves) none
-    ∙ ap Some (sym c.new-then-joint_len-eq0.ensures.items)
+    rw (sym c.joint_len.ensures ∙ c.if-joint_len-eq0.true) (drawn-none g.C.F.Field.residue g.C.F.Field.MODULUS g.C.F.Field.WIDTH _ _ ∙ ap Some (sym c.new-then-joint_len-eq0.ensures.items))
 
-pub returns-in-Ok-drawn-clause-randomness : goal.returns-in-Ok-drawn-clause-randomness
-returns-in-Ok-drawn-clause-randomness g c =
-    let F = g.C.F.Field in
-    let b = base_of F.ring F.half_of F.root_of F.number F.residue F.MODULUS F.WIDTH in
-    let shape = g.C.Circuit.shape c.args.c.now in
-    let kind : ℕ = c.args.kind in
-    let halves = seen c.args.input.now in
-    sym (joint-is b shape kind c.in-Ok.parts.leader c.in-Ok.parts.helper (left b shape kind c.args.id.now c.args.keys.now halves) (right b shape kind c.args.id.now c.args.keys.now halves)
-    c.in-Ok-joint_seed_of.seed c.joint_len-2.result c.in-Ok.ensures.leader c.in-Ok.ensures.helper c.in-Ok-joint_seed_of.ensures c.joint_len-2.ensures)
-    ∙ c.in-Ok-drawn.ensures.drawn
+pub returns-in_err-randomness-clause-randomness : goal.returns-in_err-randomness-clause-randomness
+returns-in_err-randomness-clause-randomness g c =
+    subst (λ o. Splits (λ joint. joint.randomness.items) c.from_residual-in_err-randomness.result o)
+    (joint-is (base g.C.F.Field) (g.C.Circuit.shape c.args.c.now) c.args.kind c.in_ok-parts.ensures.leader c.in_ok-parts.ensures.helper c.in_ok-seed.ensures c.joint_len-2.ensures)
+    (search rules)
 
-pub returns-in-Err-clause-randomness : goal.returns-in-Err-clause-randomness
-returns-in-Err-clause-randomness g c =
-    let F = g.C.F.Field in
-    let b = base_of F.ring F.half_of F.root_of F.number F.residue F.MODULUS F.WIDTH in
-    let shape = g.C.Circuit.shape c.args.c.now in
-    let kind : ℕ = c.args.kind in
-    let halves = seen c.args.input.now in
-    subst (λ o. Faults c.in-Err.fault o)
-    (joint-is b shape kind c.in-Ok.parts.leader c.in-Ok.parts.helper (left b shape kind c.args.id.now c.args.keys.now halves) (right b shape kind c.args.id.now c.args.keys.now halves)
-    c.in-Ok-joint_seed_of.seed c.joint_len-2.result c.in-Ok.ensures.leader c.in-Ok.ensures.helper c.in-Ok-joint_seed_of.ensures c.joint_len-2.ensures)
-    c.in-Err.ensures.drawn
+pub returns-clause-randomness : goal.returns-clause-randomness
+returns-clause-randomness g c =
+    sym (joint-is (base g.C.F.Field) (g.C.Circuit.shape c.args.c.now) c.args.kind c.in_ok-parts.ensures.leader c.in_ok-parts.ensures.helper c.in_ok-seed.ensures c.joint_len-2.ensures)
+    ∙ c.in_ok-randomness.ensures.drawn
