@@ -1,20 +1,17 @@
--- Lemmas: faults handed on, and answers made of a call's clauses.
-use Rattle.std.proofs.Common.{◌≡◌, ℕ, List, Option, Some, None, Result, Ok, Err, Vec, Global, sym, ap, ◌∙◌, subst}
+-- Lemmas: answers made of a call's clauses.
+use Rattle.std.proofs.Common.{◌≡◌, ℕ, List, Option, Some, Result, Ok, Err, IfOk, Vec, Global, sym, ap, ◌∙◌, subst}
 use Rattle.std.specs.Option.{option_and_then}
 use Rattle.vdaf_api.specs.declared.fault.PrepFault.{PrepFault}
 use Rattle.vdaf_api.specs.declared.fault.PrepFault.TheVariants.{Invalid, NoMemory}
-use Rattle.vdaf_api.specs.Answered.{Prepares, Starts}
+use Rattle.vdaf_api.specs.Answered.{Starts}
 use Rattle.prio3_share.specs.Preparing.{Started, finish}
 use Rattle.prio3_prep.specs.declared.state.State.{State}
-use Rattle.prio3_prep.specs.States.{Begins, Faults, started, state_finish}
+use Rattle.prio3_prep.specs.States.{Begins, started, state_finish}
 
-pub faults-on : {B D : Type 0} (fault : PrepFault) (o : Option B) (q : Option D) → Faults fault o → (o ≡ None → q ≡ None) → Faults fault q
-faults-on Invalid o q h k = k h
-faults-on NoMemory o q h k = tt
-
-pub prepares-fault : {B : Type 0} (fault : PrepFault) (o : Option B) (q : Option (List ℕ)) → Faults fault o → (o ≡ None → q ≡ None) → Prepares (Err fault) q
-prepares-fault Invalid o q h k = k h
-prepares-fault NoMemory o q h k = tt
+-- what holds of each value of the definition holds of what a call gives
+pub of-value : {A B : Type 0} (f : A → B) (P : B → Type 0) (o : Option B) (r : Result A PrepFault) → ((v : B) → o ≡ Some v → P v) → Begins f r o → IfOk r (λ a. P (f a))
+of-value f P o (Ok a) h e = h (f a) e
+of-value f P o (Err fault) h e = tt
 
 -- a start and its state's out shares
 pub starts : (r : Result (State × Vec ℕ Global) PrepFault) (o : Option Started) → Begins started r o

@@ -1,24 +1,17 @@
 -- Lemmas: the decision on a verifier as a test, and the sum of two verifier shares.
-use Rattle.std.proofs.Common.{◌≡◌, ℕ, ◌+◌, max, List, ◌++◌, length, take, drop, Bool, true, false, sym, ap, ◌∙◌, refl, arith}
-use Rattle.std.specs.Prelude.{◌&&◌, ◌↔◌, IsTrue, nat_eq, slice_index_or}
+use Rattle.std.proofs.Common.{◌≡◌, ℕ, ◌+◌, max, List, length, take, drop, Bool, true, false, sym, ap, ◌∙◌, refl, arith}
+use Rattle.std.specs.Prelude.{◌↔◌, IsTrue, slice_index_or}
+use Rattle.std.proofs.lemmas.Bool.{and_parts, eqb-true}
 use Rattle.std.proofs.lemmas.Bool.Decides.{nat_tests}
-use Rattle.std.proofs.Math.Seq.{take-append_seam}
 use Rattle.field_laws.specs.Ring.{Ring}
 use Rattle.field_laws.specs.Residues.{Residues}
-use Rattle.field_laws.specs.Vector.{add_elements}
 use Rattle.field_laws.specs.Polynomial.{add_polynomials}
 use Rattle.field_laws.proofs.Modulo.{same_number}
-use Rattle.field_laws.proofs.Polynomials.{length-add, add_elements-same_length}
+use Rattle.field_laws.proofs.Polynomials.{length-add}
 use Rattle.flp_circuits.specs.Shape.{Shape, gadget}
 use Rattle.flp_proof.specs.Proof.{Accepts}
 use Rattle.prio3_share.specs.Base.{Base}
 use Rattle.prio3_share.specs.Preparing.{accepts}
-
-pub kept : {A : Type 0} (n : ℕ) (new rest : List A) → length new ≡ n → take n (new ++ rest) ≡ new
-kept n new rest e = ap (λ k. take k (new ++ rest)) (sym e) ∙ take-append_seam new rest
-
-pub sum-is : {F : Type 0} (ring : Ring F) (x y : List F) → length x ≡ length y → add_elements ring x y ≡ add_polynomials ring x y
-sum-is ring x y e = add_elements-same_length ring x y e
 
 pub length-sum : {F : Type 0} (ring : Ring F) (x y : List F) (n : ℕ) → length x ≡ n → length y ≡ n → length (add_polynomials ring x y) ≡ n
 length-sum ring x y n ex ey = length-add ring x y ∙ (let m : max (length x) (length y) ≡ n = omega arith in m)
@@ -30,18 +23,10 @@ module _ {F : Type 0} (b : Base F) (c : Shape F) (kind : ℕ) where
       let two : b.number (gadget b.ring c (take c.arity (drop 1 v))) ≡ b.number (slice_index_or v (c.arity + 1) b.ring.nought) = ap b.number a.1 in
       grind (arith, nat_tests)
 
-  both : (p q : Bool) → (p && q) ≡ true → (p ≡ true) × (q ≡ true)
-  both true true e = (refl, refl)
-  both true false e = absurd (cc)
-  both false q e = absurd (cc)
-
-  equal : (m n : ℕ) → nat_eq m n ≡ true → m ≡ n
-  equal m n e = grind (arith, nat_tests)
-
   accepts-back : Residues b.modulus b.number b.residue → (v : List F) → accepts b c kind v ≡ true → Accepts b.ring c v
   accepts-back residues v e =
-      let k = both _ _ e in
-      (same_number residues _ _ (equal _ _ k.0), same_number residues _ _ (equal _ _ k.1))
+      let k = and_parts _ _ e in
+      (same_number residues _ _ (eqb-true _ _ k.0), same_number residues _ _ (eqb-true _ _ k.1))
 
   pub decides : Residues b.modulus b.number b.residue → (v : List F) (r : Bool) → (IsTrue r ↔ Accepts b.ring c v) → r ≡ accepts b c kind v
   decides residues v true h = sym (accepted v (h.0 refl))

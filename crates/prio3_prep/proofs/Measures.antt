@@ -1,5 +1,5 @@
 -- Lemmas: a circuit's measurement function keeps the laws.
-use Rattle.std.proofs.Common.{◌≡◌, ℕ, ◌+◌, ◌*◌, ◌<◌, ◌≤◌, List, ◌++◌, length, map, drop, Some, sym, ap, ◌∙◌, arith, subst}
+use Rattle.std.proofs.Common.{◌≡◌, ℕ, ◌+◌, ◌*◌, ◌<◌, ◌≤◌, List, ◌++◌, length, map, drop, true, Some, sym, ap, ◌∙◌, arith, subst}
 use Rattle.std.specs.Prelude.{replicate}
 use Rattle.std.specs.Str.{bytes_eq}
 use Rattle.std.specs.Option.{option_and_then}
@@ -12,13 +12,14 @@ use Rattle.vdaf_api.specs.declared.role.Role.{Role}
 use Rattle.vdaf_api.specs.declared.answer.Answer.{Answer}
 use Rattle.vdaf_api.specs.Functions.{Parts}
 use Rattle.vdaf_api.specs.Vectors.{SpaceLaws, IsOut, Below, vector}
+use Rattle.vdaf_api.specs.Verdict.{numbers_of, opened, verdict}
 use Rattle.vdaf_api.specs.Spelled.{when-some}
 use Rattle.vdaf_api.specs.Laws.{FunctionLaws, PartsAreShort}
 use Rattle.prio3_share.specs.Base.{Base, BaseLaws}
 use Rattle.prio3_share.specs.declared.usage.Usage.TheVariants.{JointSeed}
 use Rattle.prio3_share.specs.Texts.{info, bytes_of, joint_seed}
 use Rattle.prio3_share.specs.Sharing.{if_joint, sharing, shard, encoding}
-use Rattle.prio3_share.specs.Preparing.{Started, x_bytes, proof_bytes, verifier_bytes, own_part, verifier, start, share_of, finish, out_of, accepts, verifier_of, combine}
+use Rattle.prio3_share.specs.Preparing.{Started, x_bytes, proof_bytes, verifier_bytes, own_part, verifier, start, share_of, finish, out_of, accepts, verifier_of, combine, is_fair}
 use Rattle.prio3_share.specs.Functions.{functions_of, space_of}
 use Rattle.prio3_share.proofs.Elements.{bind-some, length-bytes, vector-bytes, below-numbers}
 use Rattle.prio3_share.proofs.Lengths.{length-stream, length-part}
@@ -26,7 +27,8 @@ use Rattle.prio3_share.specs.Added.{HaveLengths}
 use Rattle.prio3_share.proofs.Added.{lengths}
 use Rattle.prio3_prep.proofs.Lengths.{joint-le, joint-short}
 use Rattle.prio3_prep.proofs.Steps.{length-query}
-use Rattle.prio3_prep.proofs.Inversions.{Sizes, half-sizes, Began, began}
+use Rattle.prio3_prep.specs.States.{Sizes}
+use Rattle.prio3_prep.proofs.Inversions.{half-sizes, Began, began}
 use Rattle.prio3_prep.proofs.Honest.{honest}
 
 module _ {F : Type 0} {b : Base F} (laws : BaseLaws b) (c : Shape F) (keeps : ShapeLaws b.ring c) (codes : EncodeLaws b.ring c) (kind : ℕ) where
@@ -39,6 +41,10 @@ module _ {F : Type 0} {b : Base F} (laws : BaseLaws b) (c : Shape F) (keeps : Sh
     some_entry = codes.some_out;
     few_entries = let m : c.out_len * b.width ≤ 1024 * 16 = mul-le-mul codes.few_out laws.few_bytes in omega arith;
   }
+
+  pub honest_laws : (answer : List ℕ → Answer) (verify id seed : List ℕ) (m : ℕ) (p : Parts) → shard b c kind id m seed ≡ Some p → is_fair b c kind verify id ≡ true
+      → numbers_of (functions_of b c kind answer) (verdict (functions_of b c kind answer) (opened verify id p)) ≡ encoding b c kind m
+  honest_laws answer verify id seed m p = honest laws c keeps codes kind answer verify id seed m p space_laws
 
   parts_short : (id seed : List ℕ) (x : List F) (p : Parts) → length x ≡ c.input_len → x_bytes b c kind + proof_bytes b c kind + 16 ≤ 131056 → sharing b c kind id x seed ≡ Some p → PartsAreShort p
   parts_short id seed x p hx small e =
@@ -80,7 +86,7 @@ module _ {F : Type 0} {b : Base F} (laws : BaseLaws b) (c : Shape F) (keeps : Sh
       let some : Some one.0.out ≡ Some out = two.1 in
       let is : one.0.out ≡ out = cc in
       let v : List F = c.truncate g.h.x in
-      let sizes : Sizes b c kind g.h = half-sizes b c kind laws role input g.h g.half in
+      let sizes : Sizes c g.h = half-sizes b c kind laws role input g.h g.half in
       let size : length v ≡ c.out_len = codes.length-truncate g.h.x sizes.x in
       let here : out ≡ bytes_of b v = sym is ∙ ap (λ (s : Started). s.out) g.is in
       (map b.number v, ap (vector (space_of b c)) here ∙ vector-bytes laws c.out_len v size)
@@ -103,5 +109,5 @@ module _ {F : Type 0} {b : Base F} (laws : BaseLaws b) (c : Shape F) (keeps : Sh
     out = out_is;
     encoding = encoding_is;
     measured = λ id m seed p hi hs e. let one = bind-some (c.encode m) (λ x. sharing b c kind id x seed) p e in (map b.number (c.truncate one.0), ap (option_and_then (λ x. Some (map b.number (c.truncate x)))) one.1);
-    honest = λ key id m seed p hk hi hs e fair. honest laws c keeps codes kind answer key id seed m p space_laws e fair;
+    honest = λ key id m seed p hk hi hs. honest_laws answer key id seed m p;
   }

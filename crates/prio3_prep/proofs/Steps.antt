@@ -1,21 +1,19 @@
 -- Lemmas: each step of preparing where its parts are in order.
-use Rattle.std.proofs.Common.{◌≡◌, ℕ, suc, ◌+◌, ◌*◌, List, [], ◌∷◌, ◌++◌, length, take, drop, true, Option, Some, sym, ap, ◌∙◌, refl, arith}
+use Rattle.std.proofs.Common.{◌≡◌, ℕ, suc, ◌+◌, ◌*◌, List, [], ◌∷◌, ◌++◌, length, drop, true, Some, ap, ◌∙◌, refl, arith}
 use Rattle.std.specs.Prelude.{nat_eq}
-use Rattle.std.specs.Option.{option_and_then}
-use Rattle.std.proofs.lemmas.Bool.Decides.{nat_tests}
-use Rattle.std.proofs.Math.ListN.{length-append}
-use Rattle.std.proofs.Math.Seq.{take-append_seam, drop-append_seam}
+use Rattle.std.proofs.lemmas.Bool.{eq-eqb}
+use Rattle.std.proofs.lemmas.List.{length-append, take_at, drop_at}
 use Rattle.std.proofs.lemmas.List.FromFn.{length-map-range_with_len}
 use Rattle.field_laws.specs.Polynomial.{add_polynomials, eval}
 use Rattle.flp_circuits.specs.Shape.{Shape}
 use Rattle.flp_proof.specs.Proof.{query_of, wires_at, wire}
 use Rattle.vdaf_api.specs.declared.role.Role.{Role}
-use Rattle.vdaf_api.specs.Vectors.{when}
 use Rattle.prio3_share.specs.Base.{Base, BaseLaws}
 use Rattle.prio3_share.specs.Texts.{bytes_of, joint_seed}
 use Rattle.prio3_share.specs.Sharing.{if_joint, joint_bytes, joint_randomness}
-use Rattle.prio3_share.specs.Preparing.{Half, elements_of, half_of, verifier_bytes, left_part, right_part, point_of, started_at, start, accepts, verifier_of, combine}
+use Rattle.prio3_share.specs.Preparing.{Half, half_of, verifier_bytes, left_part, right_part, point_of, started_at, start, accepts, verifier_of, combine}
 use Rattle.prio3_share.proofs.Elements.{length-bytes, elements-bytes}
+use Rattle.prio3_prep.proofs.Cuts.{combine-of}
 
 module _ {F : Type 0} (b : Base F) (c : Shape F) (kind : ℕ) where
   -- init, where the length is right, the half reads, and both drawings have their values
@@ -26,41 +24,26 @@ module _ {F : Type 0} (b : Base F) (c : Shape F) (kind : ℕ) where
       → start b c kind role verify id public input ≡ Some (started_at b c kind role id public h r t)
   unfolding start
   start-is role verify id public input h r t e1 e2 e3 e4 =
-      let size : nat_eq (length public) (joint_bytes c 32) ≡ true = grind (arith, nat_tests) in
-      rw (size, e2, e3, e4) refl
+      rw (eq-eqb (length public) (joint_bytes c 32) e1, e2, e3, e4) refl
 
 module _ {F : Type 0} {b : Base F} (laws : BaseLaws b) (c : Shape F) (kind : ℕ) where
   -- a prep share's verifier share, read back
   verifier-is : (v : List F) (more : List ℕ) → length v ≡ c.arity + 2 → length more ≡ joint_bytes c 16 → verifier_of b c kind (bytes_of b v ++ more) ≡ Some v
   verifier-is v more hv hm =
-      let vs : List ℕ = bytes_of b v in
-      let vn : ℕ = verifier_bytes b c kind in
-      let lv : length vs ≡ vn = length-bytes laws v ∙ ap (λ n. n * b.width) hv in
-      let size : nat_eq (length (vs ++ more)) (vn + joint_bytes c 16) ≡ true = (let n : length (vs ++ more) ≡ vn + joint_bytes c 16 = length-append vs more ∙ ap (λ k. k + length more) lv ∙ ap (λ k. vn + k) hm in grind (arith, nat_tests)) in
-      let front : take vn (vs ++ more) ≡ vs = ap (λ n. take n (vs ++ more)) (sym lv) ∙ take-append_seam vs more in
-      ap (λ t. when t (elements_of b (c.arity + 2) (take vn (vs ++ more)))) size ∙ ap (elements_of b (c.arity + 2)) front ∙ elements-bytes laws (c.arity + 2) v hv
+      let lv : length (bytes_of b v) ≡ verifier_bytes b c kind = length-bytes laws v ∙ ap (λ n. n * b.width) hv in
+      let size : nat_eq (length (bytes_of b v ++ more)) (verifier_bytes b c kind + joint_bytes c 16) ≡ true = eq-eqb _ _ (omega (arith, length-append (bytes_of b v) more)) in
+      rw (size, take_at (bytes_of b v) more _ lv) (elements-bytes laws (c.arity + 2) v hv)
 
   verifier-rest : (v : List F) (more : List ℕ) → length v ≡ c.arity + 2 → drop (verifier_bytes b c kind) (bytes_of b v ++ more) ≡ more
-  verifier-rest v more hv =
-      let vs : List ℕ = bytes_of b v in
-      let lv : length vs ≡ verifier_bytes b c kind = length-bytes laws v ∙ ap (λ n. n * b.width) hv in
-      ap (λ n. drop n (vs ++ more)) (sym lv) ∙ drop-append_seam vs more
+  verifier-rest v more hv = drop_at (bytes_of b v) more _ (length-bytes laws v ∙ ap (λ n. n * b.width) hv)
 
   pub combine-is : (v w : List F) (more other : List ℕ) → length v ≡ c.arity + 2 → length w ≡ c.arity + 2 → length more ≡ joint_bytes c 16 → length other ≡ joint_bytes c 16
       → accepts b c kind (add_polynomials b.ring v w) ≡ true
       → combine b c kind (bytes_of b v ++ more) (bytes_of b w ++ other) ≡ Some (if_joint c (joint_seed kind more other))
-  unfolding combine
   combine-is v w more other hv hw hm ho ok =
-      let l : List ℕ = bytes_of b v ++ more in
-      let h : List ℕ = bytes_of b w ++ other in
-      let vn : ℕ = verifier_bytes b c kind in
-      let message : Option (List ℕ) = Some (if_joint c (joint_seed kind (drop vn l) (drop vn h))) in
-      let last : List F → List F → Option (List ℕ) = λ v w. when (accepts b c kind (add_polynomials b.ring v w)) message in
-      ap (option_and_then (λ v. option_and_then (last v) (verifier_of b c kind h))) (verifier-is v more hv hm)
-      ∙ ap (option_and_then (last v)) (verifier-is w other hw ho)
-      ∙ ap (λ t. when t message) ok
-      ∙ ap (λ m. Some (if_joint c (joint_seed kind m (drop vn h)))) (verifier-rest v more hv)
-      ∙ ap (λ m. Some (if_joint c (joint_seed kind more m))) (verifier-rest w other hw)
+      combine-of b c kind (bytes_of b v ++ more) (bytes_of b w ++ other) v w true (verifier-is v more hv hm) (verifier-is w other hw ho) ok
+      ∙ ap (λ l. Some (if_joint c (joint_seed kind l (drop (verifier_bytes b c kind) (bytes_of b w ++ other))))) (verifier-rest v more hv)
+      ∙ ap (λ l. Some (if_joint c (joint_seed kind more l))) (verifier-rest w other hw)
 
   pub length-query : (one : F) (x p r : List F) (t : F) → length (query_of b.ring b.half b.root c one x p r t) ≡ c.arity + 2
   unfolding query_of

@@ -1,18 +1,13 @@
 -- A start, cut where the code is cut.
-use Rattle.std.specs.Prelude.{ℕ, List, ◌++◌, Bool, Option, Some}
+use Rattle.std.specs.Prelude.{ℕ, List, ◌++◌, Option, Some}
 use Rattle.flp_circuits.specs.Shape.{Shape}
 use Rattle.flp_proof.specs.Proof.{query_of}
 use Rattle.vdaf_api.specs.declared.role.Role.{Role}
 use Rattle.vdaf_api.specs.Functions.{◌>>=◌}
-use Rattle.vdaf_api.specs.Vectors.{when}
 use Rattle.prio3_share.specs.Base.{Base}
 use Rattle.prio3_share.specs.Texts.{bytes_of, joint_seed}
 use Rattle.prio3_share.specs.Sharing.{if_joint, joint_randomness}
 use Rattle.prio3_share.specs.Preparing.{Half, Started, own_part, left_part, right_part, point_of}
-
--- a half of two vectors, where the test holds and both are there
-unfoldable pub half_from : {F : Type 0} → Bool → Option (List F) → Option (List F) → List ℕ → Option (Half F)
-half_from test xs proofs blind = when test (xs >>= λ x. proofs >>= λ proof. Some (record { x = x; proof = proof; blind = blind }))
 
 module _ {F : Type 0} (b : Base F) (c : Shape F) (kind : ℕ) where
   -- the prep share and the state at the query point t

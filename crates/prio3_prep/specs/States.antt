@@ -1,10 +1,13 @@
 -- What the calls of preparing see and answer.
-use Rattle.std.specs.Prelude.{◌≡◌, ℕ, List, [], Option, Some, None, Result, Ok, Err, Vec}
+use Rattle.std.specs.Prelude.{◌≡◌, ℕ, List, [], length, Option, Some, None, Result, Ok, Err, Vec}
 use Rattle.std.specs.Str.{bytes_eq}
 use Rattle.std.specs.declared.alloc.Global.{Global}
 use Rattle.vdaf_api.specs.declared.fault.PrepFault.{PrepFault}
 use Rattle.vdaf_api.specs.declared.fault.PrepFault.TheVariants.{Invalid, NoMemory}
 use Rattle.vdaf_api.specs.Vectors.{when}
+use Rattle.flp_circuits.specs.Shape.{Shape}
+use Rattle.flp_proof.specs.Proof.{proof_len}
+use Rattle.prio3_share.specs.Sharing.{joint_bytes}
 use Rattle.prio3_share.specs.Preparing.{Half, Started}
 use Rattle.prio3_prep.specs.declared.half.InputHalf.{InputHalf}
 use Rattle.prio3_prep.specs.declared.state.State.{State}
@@ -17,6 +20,12 @@ bytes_in None = []
 -- what a half holds
 abbrev pub held : {F : Type 0} → InputHalf F → Half F
 held h = record { x = h.x.items; proof = h.proof.items; blind = bytes_in h.blind }
+
+-- how long the contents of a half are
+pub record Sizes {F : Type 0} (c : Shape F) (h : Half F) : Type 0 where
+  pub x : length h.x ≡ c.input_len
+  pub proof : length h.proof ≡ proof_len c
+  pub blind : length h.blind ≡ joint_bytes c 16
 
 -- a state and its prep share
 abbrev pub started : State × Vec ℕ Global → Started

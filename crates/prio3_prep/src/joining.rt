@@ -3,18 +3,17 @@ ghost use Rattle.std.specs.Prelude.{◌≡◌, ◌≤◌, ◌+◌, ℕ, IfOk, le
 ghost use Rattle.std.specs.Str.{bytes_eq};
 ghost use Rattle.field_laws.specs.Polynomial.{add_polynomials};
 ghost use Rattle.vdaf_api.specs.Answered.{Prepares};
-ghost use Rattle.prio3_share.specs.Base.{base_of};
 ghost use Rattle.prio3_share.specs.Texts.{joint_seed};
 ghost use Rattle.prio3_share.specs.Sharing.{if_joint};
 ghost use Rattle.prio3_share.specs.Preparing.{accepts, combine, verifier_bytes};
 ghost use Rattle.prio3_prep.specs.States.{bytes_in, state_finish};
 
-use crate::reading::read_verifier;
+use crate::reading::{read_verifier, verifier_bytes};
 use crate::state::State;
-use field_laws::{Field, add_all};
+use field_laws::add_all;
 use flp_circuits::Circuit;
 use flp_proof::decide;
-use prio3_share::joint_seed_of;
+use prio3_share::{Based, joint_seed_of};
 use std::alloc::{AllocError, Global};
 use vdaf_api::PrepFault;
 
@@ -22,7 +21,7 @@ use vdaf_api::PrepFault;
 fn is_accepted<C: Circuit>(c: &C, mut leader: Vec<C::F>, helper: &[C::F]) -> bool
     requires leader { length leader.items ≡ (C.shape c.now).arity + 2 }
     requires helper { length helper.now ≡ (C.shape c.now).arity + 2 }
-    ensures { (kind : ℕ) → result ≡ accepts (base_of C.F.ring C.F.half_of C.F.root_of C.F.number C.F.residue C.F.MODULUS C.F.WIDTH) (C.shape c.now) kind (add_polynomials C.F.ring leader.items helper.now) }
+    ensures { (kind : ℕ) → result ≡ accepts ⟦<C::F as Based>⟧.base (C.shape c.now) kind (add_polynomials C.F.ring leader.items helper.now) }
 {
     add_all(&mut leader, helper);
     decide(c, &leader)
@@ -36,14 +35,14 @@ fn message_of<C: Circuit>(
     leader: &[u8],
     helper: &[u8],
 ) -> Result<Vec<u8>, AllocError>
-    requires leader { verifier_bytes (base_of C.F.ring C.F.half_of C.F.root_of C.F.number C.F.residue C.F.MODULUS C.F.WIDTH) (C.shape c.now) kind ≤ length leader.now }
-    requires helper { verifier_bytes (base_of C.F.ring C.F.half_of C.F.root_of C.F.number C.F.residue C.F.MODULUS C.F.WIDTH) (C.shape c.now) kind ≤ length helper.now }
-    ensures { IfOk result (λ v. v.items ≡ if_joint (C.shape c.now) (joint_seed kind (drop (verifier_bytes (base_of C.F.ring C.F.half_of C.F.root_of C.F.number C.F.residue C.F.MODULUS C.F.WIDTH) (C.shape c.now) kind) leader.now) (drop (verifier_bytes (base_of C.F.ring C.F.half_of C.F.root_of C.F.number C.F.residue C.F.MODULUS C.F.WIDTH) (C.shape c.now) kind) helper.now))) }
+    requires leader { verifier_bytes ⟦<C::F as Based>⟧.base (C.shape c.now) kind ≤ length leader.now }
+    requires helper { verifier_bytes ⟦<C::F as Based>⟧.base (C.shape c.now) kind ≤ length helper.now }
+    ensures { IfOk result (λ v. v.items ≡ if_joint (C.shape c.now) (joint_seed kind (drop (verifier_bytes ⟦<C::F as Based>⟧.base (C.shape c.now) kind) leader.now) (drop (verifier_bytes ⟦<C::F as Based>⟧.base (C.shape c.now) kind) helper.now))) }
 {
     if c.joint_len() == 0 {
         return Ok(Vec::new(alloc));
     }
-    let size = (c.arity() + 2) * C::F::WIDTH;
+    let size = verifier_bytes(c);
     let (_, leader_part) = leader.split_at(size);
     let (_, helper_part) = helper.split_at(size);
     let seed = joint_seed_of(alloc, kind, leader_part, helper_part)?;
@@ -62,23 +61,14 @@ pub fn combine<C: Circuit>(
     leader: &[u8],
     helper: &[u8],
 ) -> Result<Vec<u8>, PrepFault>
-    ensures { Prepares result (combine (base_of C.F.ring C.F.half_of C.F.root_of C.F.number C.F.residue C.F.MODULUS C.F.WIDTH) (C.shape c.now) kind leader.now helper.now) }
+    ensures { Prepares result (combine ⟦<C::F as Based>⟧.base (C.shape c.now) kind leader.now helper.now) }
 {
-    let leader_verifier = match read_verifier(alloc, c, leader) {
-        Ok(verifier) => verifier,
-        Err(fault) => return Err(fault),
-    };
-    let helper_verifier = match read_verifier(alloc, c, helper) {
-        Ok(verifier) => verifier,
-        Err(fault) => return Err(fault),
-    };
+    let leader_verifier = read_verifier(alloc, c, leader)?;
+    let helper_verifier = read_verifier(alloc, c, helper)?;
     if !is_accepted(c, leader_verifier, &helper_verifier) {
         return Err(PrepFault::Invalid);
     }
-    match message_of(alloc, c, kind, leader, helper) {
-        Ok(message) => Ok(message),
-        Err(_) => Err(PrepFault::NoMemory),
-    }
+    Ok(message_of(alloc, c, kind, leader, helper)?)
 }
 
 impl State {
@@ -102,8 +92,5 @@ pub fn finish(alloc: Global, state: &State, message: &[u8]) -> Result<Vec<u8>, P
     if !state.awaits(message) {
         return Err(PrepFault::Invalid);
     }
-    match state.out.as_slice().to_vec(alloc) {
-        Ok(out) => Ok(out),
-        Err(_) => Err(PrepFault::NoMemory),
-    }
+    Ok(state.out.as_slice().to_vec(alloc)?)
 }

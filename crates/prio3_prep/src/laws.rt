@@ -7,34 +7,34 @@ ghost use Rattle.vdaf_api.specs.Functions.{Parts};
 ghost use Rattle.vdaf_api.specs.Laws.{FunctionLaws};
 ghost use Rattle.vdaf_api.specs.Verdict.{numbers_of, opened, verdict};
 ghost use Rattle.prio3_share.specs.declared.usage.Usage.TheVariants.{QueryPoint};
-ghost use Rattle.prio3_share.specs.Base.{base_of};
 ghost use Rattle.prio3_share.specs.Texts.{drawn_for};
 ghost use Rattle.prio3_share.specs.Sharing.{encoding, shard};
 ghost use Rattle.prio3_share.specs.Preparing.{is_fair, proof_bytes, x_bytes};
 ghost use Rattle.prio3_share.specs.Functions.{functions_of};
 
 use flp_circuits::Circuit;
+use prio3_share::Based;
 
 /// A law: the verdict on an honest report of two shares is ok, and its content is the truncated encoding of the
 /// measurement, wherever the drawing of the query point has a value that is no P-th root of one.
 pub fn honest_reports_are_accepted<C: Circuit>(c: &C, kind: u8)
     ensures honest { (answer : List ℕ → Answer) (verify id seed : List ℕ) (m : ℕ) (p : Parts)
-        → shard (base_of C.F.ring C.F.half_of C.F.root_of C.F.number C.F.residue C.F.MODULUS C.F.WIDTH) (C.shape c.now) kind id m seed ≡ Some p
-        → is_fair (base_of C.F.ring C.F.half_of C.F.root_of C.F.number C.F.residue C.F.MODULUS C.F.WIDTH) (C.shape c.now) kind verify id ≡ true
-        → numbers_of (functions_of (base_of C.F.ring C.F.half_of C.F.root_of C.F.number C.F.residue C.F.MODULUS C.F.WIDTH) (C.shape c.now) kind answer)
-        (verdict (functions_of (base_of C.F.ring C.F.half_of C.F.root_of C.F.number C.F.residue C.F.MODULUS C.F.WIDTH) (C.shape c.now) kind answer) (opened verify id p))
-        ≡ encoding (base_of C.F.ring C.F.half_of C.F.root_of C.F.number C.F.residue C.F.MODULUS C.F.WIDTH) (C.shape c.now) kind m }
+        → shard ⟦<C::F as Based>⟧.base (C.shape c.now) kind id m seed ≡ Some p
+        → is_fair ⟦<C::F as Based>⟧.base (C.shape c.now) kind verify id ≡ true
+        → numbers_of (functions_of ⟦<C::F as Based>⟧.base (C.shape c.now) kind answer)
+        (verdict (functions_of ⟦<C::F as Based>⟧.base (C.shape c.now) kind answer) (opened verify id p))
+        ≡ encoding ⟦<C::F as Based>⟧.base (C.shape c.now) kind m }
     ensures fair { (verify id : List ℕ) (t : C.F)
-        → drawn_for (base_of C.F.ring C.F.half_of C.F.root_of C.F.number C.F.residue C.F.MODULUS C.F.WIDTH) kind verify QueryPoint id 1 ≡ Some (t ∷ [])
+        → drawn_for ⟦<C::F as Based>⟧.base kind verify QueryPoint id 1 ≡ Some (t ∷ [])
         → power C.F.ring t (2 ^ wire_log (C.shape c.now).calls) ≢ C.F.ring.unit
-        → is_fair (base_of C.F.ring C.F.half_of C.F.root_of C.F.number C.F.residue C.F.MODULUS C.F.WIDTH) (C.shape c.now) kind verify id ≡ true }
+        → is_fair ⟦<C::F as Based>⟧.base (C.shape c.now) kind verify id ≡ true }
 {}
 
 /// A law: a circuit's measurement function keeps the laws of measurement functions, whatever its answers are, where an
 /// input share of the leader has at most 131,056 bytes.
 pub fn circuits_measure<C: Circuit>(c: &C, kind: u8)
     ensures { (answer : List ℕ → Answer)
-        → x_bytes (base_of C.F.ring C.F.half_of C.F.root_of C.F.number C.F.residue C.F.MODULUS C.F.WIDTH) (C.shape c.now) kind
-        + proof_bytes (base_of C.F.ring C.F.half_of C.F.root_of C.F.number C.F.residue C.F.MODULUS C.F.WIDTH) (C.shape c.now) kind + 16 ≤ 131056
-        → FunctionLaws (functions_of (base_of C.F.ring C.F.half_of C.F.root_of C.F.number C.F.residue C.F.MODULUS C.F.WIDTH) (C.shape c.now) kind answer) }
+        → x_bytes ⟦<C::F as Based>⟧.base (C.shape c.now) kind
+        + proof_bytes ⟦<C::F as Based>⟧.base (C.shape c.now) kind + 16 ≤ 131056
+        → FunctionLaws (functions_of ⟦<C::F as Based>⟧.base (C.shape c.now) kind answer) }
 {}

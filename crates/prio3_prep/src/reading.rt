@@ -1,19 +1,18 @@
 //! Input shares and prep shares, read.
-ghost use Rattle.std.specs.Prelude.{◌≡◌, ◌≤◌, ◌*◌, ◌⊎◌, ℕ, IfOk, IfSome, length};
+ghost use Rattle.std.specs.Prelude.{◌≡◌, ◌≤◌, ◌+◌, ◌*◌, ◌⊎◌, ℕ, IfOk, IfSome, OnOk, length};
 ghost use Rattle.flp_proof.specs.Proof.{proof_len};
 ghost use Rattle.vdaf_api.specs.declared.role.Role.TheVariants.{Helper, Leader};
-ghost use Rattle.prio3_share.specs.Base.{base_of};
 ghost use Rattle.prio3_share.specs.Texts.{drawn_for};
 ghost use Rattle.prio3_share.specs.Sharing.{joint_bytes};
-ghost use Rattle.prio3_share.specs.Preparing.{elements_of, half_of, verifier_of};
-ghost use Rattle.prio3_prep.specs.States.{Begins, bytes_in, held};
+ghost use Rattle.prio3_share.specs.Preparing.{elements_of, half_of, verifier_bytes, verifier_of};
+ghost use Rattle.prio3_prep.specs.States.{Begins, Sizes, bytes_in, held};
 
 use crate::half::InputHalf;
 use aes_cmac_prg::DrawFault;
 use field_laws::Field;
 use flp_circuits::Circuit;
 use flp_proof::proof_len;
-use prio3_share::{Usage, draw_for};
+use prio3_share::{Based, Usage, draw_for};
 use std::alloc::Global;
 use vdaf_api::{PrepFault, Role};
 
@@ -27,7 +26,7 @@ pub(crate) fn draw<F: Field>(
     n: usize,
 ) -> Result<Vec<F>, PrepFault>
     requires few { n ≤ 8192 }
-    ensures drawn { Begins (λ v. v.items) result (drawn_for (base_of F.ring F.half_of F.root_of F.number F.residue F.MODULUS F.WIDTH) kind seed.now usage rest.now n) }
+    ensures drawn { Begins (λ v. v.items) result (drawn_for ⟦<F as Based>⟧.base kind seed.now usage rest.now n) }
     ensures size { IfOk result (λ v. length v.items ≡ n) }
 {
     match draw_for(alloc, kind, seed, usage, rest, n) {
@@ -44,7 +43,8 @@ pub(crate) fn read_elements<F: Field>(
     bytes: &[u8],
 ) -> Result<Vec<F>, PrepFault>
     requires { length bytes.now ≡ n * F.WIDTH }
-    ensures { Begins (λ v. v.items) result (elements_of (base_of F.ring F.half_of F.root_of F.number F.residue F.MODULUS F.WIDTH) n bytes.now) }
+    ensures elements { Begins (λ v. v.items) result (elements_of ⟦<F as Based>⟧.base n bytes.now) }
+    ensures size { IfOk result (λ v. length v.items ≡ n) }
 {
     let mut elements = Vec::new(alloc);
     let mut rest = bytes;
@@ -66,6 +66,30 @@ pub(crate) fn joint_bytes<C: Circuit>(c: &C, n: usize) -> usize
     ensures { result ≡ joint_bytes (C.shape c.now) n }
 {
     if c.joint_len() > 0 { n } else { 0 }
+}
+
+/// How many bytes spell an input.
+fn input_bytes<C: Circuit>(c: &C) -> usize
+    ensures bytes { result ≡ (C.shape c.now).input_len * C.F.WIDTH }
+    ensures few { result ≤ 131072 }
+{
+    c.input_len() * C::F::WIDTH
+}
+
+/// How many bytes spell a proof.
+fn proof_bytes<C: Circuit>(c: &C) -> usize
+    ensures bytes { result ≡ proof_len (C.shape c.now) * C.F.WIDTH }
+    ensures few { result ≤ 131072 }
+{
+    proof_len(c) * C::F::WIDTH
+}
+
+/// How many bytes spell a verifier share.
+pub(crate) fn verifier_bytes<C: Circuit>(c: &C) -> usize
+    ensures bytes { result ≡ ((C.shape c.now).arity + 2) * C.F.WIDTH }
+    ensures few { result ≤ 64 }
+{
+    (c.arity() + 2) * C::F::WIDTH
 }
 
 /// A key as an array.
@@ -92,39 +116,33 @@ fn blind_from(bytes: &[u8]) -> Option<[u8; 16]>
 }
 
 /// The leader's half: its input share spells it.
+#[tactic(auto, unfolding(prio3_share::specs::Preparing::half_of))]
 fn leader_half<C: Circuit>(alloc: Global, c: &C, input: &[u8]) -> Result<InputHalf<C::F>, PrepFault>
-    ensures { (kind : ℕ) → Begins held result (half_of (base_of C.F.ring C.F.half_of C.F.root_of C.F.number C.F.residue C.F.MODULUS C.F.WIDTH) (C.shape c.now) kind Leader input.now) }
+    ensures { (kind : ℕ) → Begins held result (half_of ⟦<C::F as Based>⟧.base (C.shape c.now) kind Leader input.now) }
 {
-    let x_bytes = c.input_len() * C::F::WIDTH;
-    let proof_bytes = proof_len(c) * C::F::WIDTH;
+    let x_bytes = input_bytes(c);
+    let proof_bytes = proof_bytes(c);
     if input.len() != x_bytes + (proof_bytes + joint_bytes(c, 16)) {
         return Err(PrepFault::Invalid);
     }
     let (first, rest) = input.split_at(x_bytes);
     let (second, blind) = rest.split_at(proof_bytes);
-    let x = match read_elements(alloc, c.input_len(), first) {
-        Ok(x) => x,
-        Err(fault) => return Err(fault),
-    };
-    let proof = match read_elements(alloc, proof_len(c), second) {
-        Ok(proof) => proof,
-        Err(fault) => return Err(fault),
-    };
     Ok(InputHalf {
-        x,
-        proof,
+        x: read_elements(alloc, c.input_len(), first)?,
+        proof: read_elements(alloc, proof_len(c), second)?,
         blind: blind_from(blind),
     })
 }
 
 /// The helper's half: it is drawn from the keys in its input share.
+#[tactic(auto, unfolding(prio3_share::specs::Preparing::half_of))]
 fn helper_half<C: Circuit>(
     alloc: Global,
     c: &C,
     kind: u8,
     input: &[u8],
 ) -> Result<InputHalf<C::F>, PrepFault>
-    ensures { Begins held result (half_of (base_of C.F.ring C.F.half_of C.F.root_of C.F.number C.F.residue C.F.MODULUS C.F.WIDTH) (C.shape c.now) kind Helper input.now) }
+    ensures { Begins held result (half_of ⟦<C::F as Based>⟧.base (C.shape c.now) kind Helper input.now) }
 {
     if input.len() != 32 + joint_bytes(c, 16) {
         return Err(PrepFault::Invalid);
@@ -132,22 +150,16 @@ fn helper_half<C: Circuit>(
     let (first, rest) = input.split_at(16);
     let (second, blind) = rest.split_at(16);
     let x_key = key_from(first);
-    let x = match draw(alloc, kind, &x_key, Usage::HelperInput, &[], c.input_len()) {
-        Ok(x) => x,
-        Err(fault) => return Err(fault),
-    };
+    let x = draw(alloc, kind, &x_key, Usage::HelperInput, &[], c.input_len())?;
     let proof_key = key_from(second);
-    let proof = match draw(
+    let proof = draw(
         alloc,
         kind,
         &proof_key,
         Usage::HelperProof,
         &[],
         proof_len(c),
-    ) {
-        Ok(proof) => proof,
-        Err(fault) => return Err(fault),
-    };
+    )?;
     Ok(InputHalf {
         x,
         proof,
@@ -163,7 +175,8 @@ pub(crate) fn half_for<C: Circuit>(
     role: Role,
     input: &[u8],
 ) -> Result<InputHalf<C::F>, PrepFault>
-    ensures { Begins held result (half_of (base_of C.F.ring C.F.half_of C.F.root_of C.F.number C.F.residue C.F.MODULUS C.F.WIDTH) (C.shape c.now) kind role input.now) }
+    ensures half { Begins held result (half_of ⟦<C::F as Based>⟧.base (C.shape c.now) kind role input.now) }
+    ensures sizes { IfOk result (λ half. Sizes (C.shape c.now) (held half)) }
 {
     match role {
         Role::Leader => leader_half(alloc, c, input),
@@ -177,13 +190,14 @@ pub(crate) fn read_verifier<C: Circuit>(
     c: &C,
     share: &[u8],
 ) -> Result<Vec<C::F>, PrepFault>
-    ensures { (kind : ℕ) → Begins (λ v. v.items) result (verifier_of (base_of C.F.ring C.F.half_of C.F.root_of C.F.number C.F.residue C.F.MODULUS C.F.WIDTH) (C.shape c.now) kind share.now) }
+    ensures verifier { (kind : ℕ) → Begins (λ v. v.items) result (verifier_of ⟦<C::F as Based>⟧.base (C.shape c.now) kind share.now) }
+    ensures size { IfOk result (λ v. length v.items ≡ (C.shape c.now).arity + 2) }
+    ensures room { (kind : ℕ) → OnOk result (verifier_bytes ⟦<C::F as Based>⟧.base (C.shape c.now) kind ≤ length share.now) }
 {
-    let n = c.arity() + 2;
-    let size = n * C::F::WIDTH;
+    let size = verifier_bytes(c);
     if share.len() != size + joint_bytes(c, 16) {
         return Err(PrepFault::Invalid);
     }
     let (verifier, _part) = share.split_at(size);
-    read_elements(alloc, n, verifier)
+    read_elements(alloc, c.arity() + 2, verifier)
 }

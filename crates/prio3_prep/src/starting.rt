@@ -2,7 +2,6 @@
 ghost use Rattle.std.specs.Prelude.{◌≡◌, ◌≤◌, ◌++◌, IfOk, length};
 ghost use Rattle.flp_proof.specs.Proof.{proof_len};
 ghost use Rattle.vdaf_api.specs.Answered.{Starts};
-ghost use Rattle.prio3_share.specs.Base.{base_of};
 ghost use Rattle.prio3_share.specs.Texts.{bytes_of, joint_seed};
 ghost use Rattle.prio3_share.specs.Preparing.{helper_part_for, leader_part_for, out_of, share_of, start};
 ghost use Rattle.prio3_prep.specs.States.{Begins, bytes_in, held, started, state_finish};
@@ -15,7 +14,7 @@ use dap_bytes::Id;
 use field_laws::Field;
 use flp_circuits::Circuit;
 use flp_proof::{QueryFault, query};
-use prio3_share::{Usage, joint_seed_of, part_of, push_elements};
+use prio3_share::{Based, Usage, joint_seed_of, part_of, push_elements};
 use std::alloc::{AllocError, Global};
 use vdaf_api::{PrepFault, Role};
 
@@ -29,8 +28,8 @@ fn with_verifier<C: Circuit>(
     joint_seed: Option<[u8; 16]>,
 ) -> Result<(State, Vec<u8>), AllocError>
     requires input { length x.now ≡ (C.shape c.now).input_len }
-    ensures share { IfOk result (λ p. p.1.items ≡ bytes_of (base_of C.F.ring C.F.half_of C.F.root_of C.F.number C.F.residue C.F.MODULUS C.F.WIDTH) verifier.now ++ own.now) }
-    ensures out { IfOk result (λ p. p.0.out.items ≡ bytes_of (base_of C.F.ring C.F.half_of C.F.root_of C.F.number C.F.residue C.F.MODULUS C.F.WIDTH) ((C.shape c.now).truncate x.now)) }
+    ensures share { IfOk result (λ p. p.1.items ≡ bytes_of ⟦<C::F as Based>⟧.base verifier.now ++ own.now) }
+    ensures out { IfOk result (λ p. p.0.out.items ≡ bytes_of ⟦<C::F as Based>⟧.base ((C.shape c.now).truncate x.now)) }
     ensures seed { IfOk result (λ p. p.0.joint_seed ≡ joint_seed) }
 {
     let mut share = Vec::new(alloc);
@@ -57,12 +56,9 @@ fn at_point<C: Circuit>(
     requires input { length half.now.x.items ≡ (C.shape c.now).input_len }
     requires proof { length half.now.proof.items ≡ proof_len (C.shape c.now) }
     requires joint { length randomness.now ≡ (C.shape c.now).joint_len }
-    ensures { Begins started result (begun (base_of C.F.ring C.F.half_of C.F.root_of C.F.number C.F.residue C.F.MODULUS C.F.WIDTH) (C.shape c.now) kind key.now id.now half.now.x.items half.now.proof.items randomness.now own.now (bytes_in joint_seed)) }
+    ensures { Begins started result (begun ⟦<C::F as Based>⟧.base (C.shape c.now) kind key.now id.now half.now.x.items half.now.proof.items randomness.now own.now (bytes_in joint_seed)) }
 {
-    let point = match draw(alloc, kind, key, Usage::QueryPoint, id, 1) {
-        Ok(point) => point,
-        Err(fault) => return Err(fault),
-    };
+    let point = draw(alloc, kind, key, Usage::QueryPoint, id, 1)?;
     match query(
         alloc,
         c,
@@ -72,10 +68,7 @@ fn at_point<C: Circuit>(
         randomness,
         point[0],
     ) {
-        Ok(verifier) => match with_verifier(alloc, c, &half.x, &verifier, own, joint_seed) {
-            Ok(prepared) => Ok(prepared),
-            Err(_) => Err(PrepFault::NoMemory),
-        },
+        Ok(verifier) => Ok(with_verifier(alloc, c, &half.x, &verifier, own, joint_seed)?),
         Err(QueryFault::Root) => Err(PrepFault::Invalid),
         Err(QueryFault::NoMemory) => Err(PrepFault::NoMemory),
     }
@@ -116,27 +109,18 @@ fn with_joint<C: Circuit>(
     requires proof { length half.now.proof.items ≡ proof_len (C.shape c.now) }
     requires blind { bytes_in half.now.blind ≡ blind.now }
     requires joint { 1 ≤ (C.shape c.now).joint_len }
-    ensures { Begins started result (after_half (base_of C.F.ring C.F.half_of C.F.root_of C.F.number C.F.residue C.F.MODULUS C.F.WIDTH) (C.shape c.now) kind role key.now id.now public.now (held half.now)) }
+    ensures { Begins started result (after_half ⟦<C::F as Based>⟧.base (C.shape c.now) kind role key.now id.now public.now (held half.now)) }
 {
-    let own = match part_of(alloc, kind, role, id, blind, &half.x) {
-        Ok(own) => own,
-        Err(_) => return Err(PrepFault::NoMemory),
-    };
-    let seed = match seed_for(alloc, kind, role, &own, public) {
-        Ok(seed) => seed,
-        Err(_) => return Err(PrepFault::NoMemory),
-    };
-    let randomness = match draw(
+    let own = part_of(alloc, kind, role, id, blind, &half.x)?;
+    let seed = seed_for(alloc, kind, role, &own, public)?;
+    let randomness = draw(
         alloc,
         kind,
         &seed,
         Usage::JointRandomness,
         &[],
         c.joint_len(),
-    ) {
-        Ok(randomness) => randomness,
-        Err(fault) => return Err(fault),
-    };
+    )?;
     at_point(alloc, c, kind, key, id, half, &randomness, &own, Some(seed))
 }
 
@@ -151,15 +135,12 @@ fn begin<C: Circuit>(
     public: &[u8],
     input: &[u8],
 ) -> Result<(State, Vec<u8>), PrepFault>
-    ensures { Begins started result (start (base_of C.F.ring C.F.half_of C.F.root_of C.F.number C.F.residue C.F.MODULUS C.F.WIDTH) (C.shape c.now) kind role key.now id.now public.now input.now) }
+    ensures { Begins started result (start ⟦<C::F as Based>⟧.base (C.shape c.now) kind role key.now id.now public.now input.now) }
 {
     if public.len() != joint_bytes(c, 32) {
         return Err(PrepFault::Invalid);
     }
-    let half = match half_for(alloc, c, kind, role, input) {
-        Ok(half) => half,
-        Err(fault) => return Err(fault),
-    };
+    let half = half_for(alloc, c, kind, role, input)?;
     match &half.blind {
         Some(blind) => with_joint(alloc, c, kind, role, key, id, public, &half, blind),
         None => at_point(alloc, c, kind, key, id, &half, &[], &[], None),
@@ -181,7 +162,7 @@ pub fn init<C: Circuit>(
     public: &[u8],
     input: &[u8],
 ) -> Result<(State, Vec<u8>), PrepFault>
-    ensures { Starts state_finish result (share_of (base_of C.F.ring C.F.half_of C.F.root_of C.F.number C.F.residue C.F.MODULUS C.F.WIDTH) (C.shape c.now) kind role key.now id.now public.now input.now) (out_of (base_of C.F.ring C.F.half_of C.F.root_of C.F.number C.F.residue C.F.MODULUS C.F.WIDTH) (C.shape c.now) kind role key.now id.now public.now input.now) }
+    ensures { Starts state_finish result (share_of ⟦<C::F as Based>⟧.base (C.shape c.now) kind role key.now id.now public.now input.now) (out_of ⟦<C::F as Based>⟧.base (C.shape c.now) kind role key.now id.now public.now input.now) }
 {
     begin(alloc, c, kind, role, key, id, public, input)
 }
