@@ -60,9 +60,7 @@ impl OutShares {
     ) -> Result<OutShares, PrepFault>
         ensures { Prepares (V.functions vdaf.now) result (verdict_of (V.functions vdaf.now) task.now report.now) }
     {
-        let Ok(head) = head_of(report) else {
-            return Err(PrepFault::NoMemory);
-        };
+        let head = head_of(report)?;
         let verify = &task.verify;
         let id = &report.id;
         let public = report.public.as_slice();
