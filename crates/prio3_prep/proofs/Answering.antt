@@ -1,5 +1,5 @@
 -- Lemmas: answers made of a call's clauses.
-use Rattle.std.proofs.Common.{◌≡◌, ℕ, List, Option, Some, Result, Ok, Err, IfOk, Vec, Global, sym, ap, ◌∙◌, subst}
+use Rattle.std.proofs.Common.{◌≡◌, ℕ, List, Option, Some, Result, Ok, Err, IfOk, Vec, Global, sym, ap, ◌∙◌}
 use Rattle.std.specs.Option.{option_and_then}
 use Rattle.vdaf_api.specs.declared.fault.PrepFault.{PrepFault}
 use Rattle.vdaf_api.specs.declared.fault.PrepFault.TheVariants.{Invalid, NoMemory}
@@ -19,10 +19,6 @@ pub starts : (r : Result (State × Vec ℕ Global) PrepFault) (o : Option Starte
 starts (Ok p) o h = (ap (option_and_then (λ s. Some s.share)) h, λ message. sym (ap (option_and_then (λ s. finish s message)) h))
 starts (Err Invalid) o h = (ap (option_and_then (λ s. Some s.share)) h, λ message. ap (option_and_then (λ s. finish s message)) h)
 starts (Err NoMemory) o h = tt
-
--- an answer of a call, where its definition is the one that is wanted
-pub begins-on : {A B : Type 0} (f : A → B) (r : Result A PrepFault) (o q : Option B) → o ≡ q → Begins f r o → Begins f r q
-begins-on f r o q e h = subst (Begins f r) e h
 
 abbrev pub some_started : List ℕ → List ℕ → List ℕ → Option Started
 some_started share out message = Some (record { share = share; out = out; message = message })

@@ -1,36 +1,20 @@
 -- Lemmas: halves, starts and combinations where the code is cut.
-use Rattle.std.proofs.Common.{◌≡◌, ◌⊎◌, inl, inr, ℕ, ◌*◌, ◌≤◌, List, [], length, drop, Bool, true, false, Option, Some, None, sym, ap, ◌∙◌, refl, arith}
+use Rattle.std.proofs.Common.{◌≡◌, ◌⊎◌, inl, inr, ℕ, ◌*◌, ◌≤◌, List, length, drop, Bool, true, false, Option, Some, None, sym, ap, ◌∙◌, refl, arith}
 use Rattle.std.specs.Prelude.{nat_lt, if◌then◌else◌, IfSome}
 use Rattle.std.specs.Option.{option_and_then}
 use Rattle.std.proofs.lemmas.Bool.Decides.{nat_tests}
 use Rattle.std.proofs.Math.Nat.{mul-le-mul}
 use Rattle.field_laws.specs.Polynomial.{add_polynomials}
 use Rattle.flp_circuits.specs.Shape.{Shape}
-use Rattle.vdaf_api.specs.declared.role.Role.{Role}
 use Rattle.vdaf_api.specs.Vectors.{when}
 use Rattle.prio3_share.specs.Base.{Base}
-use Rattle.prio3_share.specs.declared.usage.Usage.TheVariants.{JointRandomness}
-use Rattle.prio3_share.specs.Texts.{drawn_for, joint_seed}
-use Rattle.prio3_share.specs.Sharing.{has_joint, if_joint, joint_bytes, joint_randomness}
-use Rattle.prio3_share.specs.Preparing.{Half, verifier_bytes, leader_part_for, helper_part_for, own_part, left_part, right_part, accepts, verifier_of, combine}
+use Rattle.prio3_share.specs.Texts.{joint_seed}
+use Rattle.prio3_share.specs.Sharing.{has_joint, if_joint, joint_bytes}
+use Rattle.prio3_share.specs.Preparing.{verifier_bytes, accepts, verifier_of, combine}
 use Rattle.prio3_prep.specs.States.{bytes_in}
-use Rattle.prio3_prep.specs.Parts.{begun, after_half}
+use Rattle.prio3_share.proofs.Lengths.{length-if_joint}
 
 module _ {F : Type 0} (b : Base F) (c : Shape F) (kind : ℕ) where
-  pub after-some : (role : Role) (verify id public own seed : List ℕ) (h : Half F) (r : List F) → 1 ≤ c.joint_len → own ≡ own_part b c kind role id h → seed ≡ joint_seed kind (leader_part_for role own public) (helper_part_for role own public)
-      → drawn_for b kind seed JointRandomness [] c.joint_len ≡ Some r → after_half b c kind role verify id public h ≡ begun b c kind verify id h.x h.proof r own seed
-  unfolding after_half
-  after-some role verify id public own seed h r some e s d =
-      let left : List ℕ = left_part b c kind role id public h in
-      let right : List ℕ = right_part b c kind role id public h in
-      let is : seed ≡ joint_seed kind left right = s ∙ ap (λ o. joint_seed kind (leader_part_for role o public) (helper_part_for role o public)) e in
-      let k : joint_randomness b c kind left right ≡ Some r = ap (λ l. drawn_for b kind l JointRandomness [] c.joint_len) (sym is) ∙ d in
-      let t : has_joint c ≡ true = (let n : nat_lt 0 c.joint_len ≡ true = grind (arith, nat_tests) in n) in
-      ap (option_and_then (λ r. begun b c kind verify id h.x h.proof r (if_joint c (own_part b c kind role id h)) (if_joint c (joint_seed kind left right)))) k
-      ∙ ap (λ j. begun b c kind verify id h.x h.proof r (if j then own_part b c kind role id h else []) (if j then joint_seed kind left right else [])) t
-      ∙ ap (λ l. begun b c kind verify id h.x h.proof r l (joint_seed kind left right)) (sym e)
-      ∙ ap (begun b c kind verify id h.x h.proof r own) (sym is)
-
   message_from : List ℕ → List ℕ → List F → List F → Option (List ℕ)
   message_from leader helper v w = when (accepts b c kind (add_polynomials b.ring v w)) (Some (if_joint c (joint_seed kind (drop (verifier_bytes b c kind) leader) (drop (verifier_bytes b c kind) helper))))
 
@@ -58,6 +42,16 @@ joint-some c e = let t : nat_lt 0 c.joint_len ≡ true = e in grind (arith, nat_
 
 pub joint-zero : {F : Type 0} (c : Shape F) → has_joint c ≡ false → c.joint_len ≡ 0
 joint-zero c e = let t : nat_lt 0 c.joint_len ≡ false = e in grind (arith, nat_tests)
+
+pub joint-le : {F : Type 0} (c : Shape F) (n : ℕ) → joint_bytes c n ≤ n
+joint-le c n = go (has_joint c)
+  where
+    go : (j : Bool) → (if j then n else 0) ≤ n
+    go true = omega arith
+    go false = omega arith
+
+pub joint-short : {F : Type 0} (c : Shape F) (bytes : List ℕ) (n : ℕ) → length bytes ≡ n → length (if_joint c bytes) ≤ n
+joint-short c bytes n e = let k : length (if_joint c bytes) ≡ joint_bytes c n = length-if_joint c bytes n e in omega (arith, joint-le c n)
 
 -- a half has a blind where there is joint randomness
 pub blind-joint : {F : Type 0} (c : Shape F) (o : Option (List ℕ)) (blind : List ℕ) → o ≡ Some blind → IfSome o (λ b. length b ≡ 16) → length (bytes_in o) ≡ joint_bytes c 16 → has_joint c ≡ true

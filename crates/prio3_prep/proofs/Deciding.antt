@@ -1,14 +1,13 @@
 -- Lemmas: the decision on a verifier as a test, and the sum of two verifier shares.
-use Rattle.std.proofs.Common.{◌≡◌, ℕ, ◌+◌, max, List, length, take, drop, Bool, true, false, sym, ap, ◌∙◌, refl, arith}
-use Rattle.std.specs.Prelude.{◌↔◌, IsTrue, slice_index_or}
-use Rattle.std.proofs.lemmas.Bool.{and_parts, eqb-true}
-use Rattle.std.proofs.lemmas.Bool.Decides.{nat_tests}
+use Rattle.std.proofs.Common.{◌≡◌, ℕ, max, List, length, Bool, true, false, sym, ap, ◌∙◌, refl, arith}
+use Rattle.std.specs.Prelude.{◌↔◌, IsTrue}
+use Rattle.std.proofs.lemmas.Bool.{and_from, and_parts, eq-eqb, eqb-true}
 use Rattle.field_laws.specs.Ring.{Ring}
 use Rattle.field_laws.specs.Residues.{Residues}
 use Rattle.field_laws.specs.Polynomial.{add_polynomials}
 use Rattle.field_laws.proofs.Modulo.{same_number}
 use Rattle.field_laws.proofs.Polynomials.{length-add}
-use Rattle.flp_circuits.specs.Shape.{Shape, gadget}
+use Rattle.flp_circuits.specs.Shape.{Shape}
 use Rattle.flp_proof.specs.Proof.{Accepts}
 use Rattle.prio3_share.specs.Base.{Base}
 use Rattle.prio3_share.specs.Preparing.{accepts}
@@ -18,10 +17,7 @@ length-sum ring x y n ex ey = length-add ring x y ∙ (let m : max (length x) (l
 
 module _ {F : Type 0} (b : Base F) (c : Shape F) (kind : ℕ) where
   pub accepted : (v : List F) → Accepts b.ring c v → accepts b c kind v ≡ true
-  accepted v a =
-      let one : b.number (slice_index_or v 0 b.ring.nought) ≡ b.number b.ring.nought = ap b.number a.0 in
-      let two : b.number (gadget b.ring c (take c.arity (drop 1 v))) ≡ b.number (slice_index_or v (c.arity + 1) b.ring.nought) = ap b.number a.1 in
-      grind (arith, nat_tests)
+  accepted v a = and_from _ _ (eq-eqb _ _ (ap b.number a.0)) (eq-eqb _ _ (ap b.number a.1))
 
   accepts-back : Residues b.modulus b.number b.residue → (v : List F) → accepts b c kind v ≡ true → Accepts b.ring c v
   accepts-back residues v e =

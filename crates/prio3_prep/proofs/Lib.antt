@@ -7,4 +7,3 @@ pub mod Answering
 pub mod Cuts
 pub mod Vectors
 pub mod Deciding
-pub mod Lengths

@@ -25,7 +25,7 @@ use Rattle.prio3_share.proofs.Elements.{bind-some, length-bytes, vector-bytes, b
 use Rattle.prio3_share.proofs.Lengths.{length-stream, length-part}
 use Rattle.prio3_share.specs.Added.{HaveLengths}
 use Rattle.prio3_share.proofs.Added.{lengths}
-use Rattle.prio3_prep.proofs.Lengths.{joint-le, joint-short}
+use Rattle.prio3_prep.proofs.Cuts.{joint-le, joint-short}
 use Rattle.prio3_prep.proofs.Steps.{length-query}
 use Rattle.prio3_prep.specs.States.{Sizes}
 use Rattle.prio3_prep.proofs.Inversions.{half-sizes, Began, began}

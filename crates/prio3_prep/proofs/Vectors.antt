@@ -33,10 +33,6 @@ unfolding vector_of
 behind-end p w ns [] e = ap Some (append-nil ns)
 behind-end p w ns (x ∷ rest) e = absurd (omega arith)
 
-pub behind-start : (o : Option (List ℕ)) → behind [] o ≡ o
-behind-start (Some ms) = refl
-behind-start None = refl
-
 pub element-none : (p w : ℕ) (bs : List ℕ) → (length bs ≢ w) ⊎ (p ≤ from_low bs) → element_of p w bs ≡ None
 unfolding element_of
 element-none p w bs (inl h) = let t : nat_eq (length bs) w ≡ false = grind (arith, nat_tests) in ap (λ t. when t (when (list_all is_byte bs) (when (nat_lt (from_low bs) p) (Some (from_low bs))))) t
