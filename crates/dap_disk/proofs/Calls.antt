@@ -65,7 +65,7 @@ module _ (first first' : List ℕ) (events events' : List Event) (same : first' 
     settle_time = ⊎_elim (λ none. same_time events none.0 (elapses_none first events)) (push_time (Settled image)) is
 
     -- what is held then
-    left : held_after first' events' ≡ left_by image (state_of first events)
+    pub left : held_after first' events' ≡ left_by image (state_of first events)
     left =
         ap (λ (f : List ℕ). held_after f events') same
         ∙ ⊎_elim

@@ -1,5 +1,5 @@
 -- What the calls of a disk do to the bytes that it holds, and what a stop may leave of them.
-use Rattle.std.specs.Prelude.{◌≡◌, ◌⊎◌, ℕ, ◌+◌, ◌≤◌, min, max, List, ◌++◌, length, take, drop, Option, Some, None}
+use Rattle.std.specs.Prelude.{◌≡◌, ◌⊎◌, ℕ, ◌+◌, ◌≤◌, min, max, List, ◌++◌, length, take, drop, Option, Some, None, OnOk, Result}
 
 -- P of what is told, where it is told
 abbrev pub Tells : Option (List ℕ) → (List ℕ → Type 0) → Type 0
@@ -51,3 +51,14 @@ pub record LeavesOnly {D : Type 0} (moment : D → ℕ) (left_since : D → ℕ 
   pub each : (c : List ℕ) → left_since new (moment old) c → P c
   -- for a run that began earlier
   pub before : (t : ℕ) (c : List ℕ) → t ≤ moment old → left_since new t c → left_since old t c ⊎ P c
+
+-- a count is as it was where the call succeeds, and one more at most else
+pub record CountsOne {T E : Type 0} (before now : ℕ) (result : Result T E) : Type 0 where
+  pub none : OnOk result (now ≡ before)
+  pub one : now ≤ before + 1
+
+-- what a call is to the count of calls: it counts, it was refused for want of memory and doesn't count, or it is a restart
+pub data Move : Type 0 where
+  Called : Move
+  Refused : Move
+  Restarted : Move

@@ -3,6 +3,7 @@ pub mod History
 pub mod HistoryLaws
 pub mod ImageLaws
 pub mod Images
+pub mod Moves
 pub mod Plan
 pub mod Runs
 pub mod Steps

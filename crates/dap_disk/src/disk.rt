@@ -1,8 +1,8 @@
 //! A disk, as a trait with a written meaning.
-ghost use Rattle.std.specs.Prelude.{◌≡◌, ◌≤◌, ◌<◌, ◌-◌, ◌+◌, ◌^◌, List, ℕ, Bool, Option, Some, length, take, drop, IfOk, OnOk, OnErr, IsErrOf, IsTrue, false};
+ghost use Rattle.std.specs.Prelude.{◌≡◌, ◌≤◌, ◌<◌, ◌-◌, ◌+◌, ◌^◌, List, ℕ, Bool, ◌⊎◌, Option, Some, length, take, drop, IfOk, OnOk, OnErr, IsErrOf, IsTrue, false};
 ghost use Rattle.dap_disk.specs.declared.disk.StoreFault.TheVariants.{Down as StoreDown};
 ghost use Rattle.dap_bytes.specs.Causes.{Rose};
-ghost use Rattle.dap_disk.specs.Disk.{Tells, of_told, written, Torn, Shortened, Follows, NoMore, Only, Elapses};
+ghost use Rattle.dap_disk.specs.Disk.{Tells, of_told, written, Torn, Shortened, Follows, NoMore, Only, Elapses, CountsOne, Move, Called, Refused, Restarted};
 
 /// The disk has stopped. Only a restart is allowed.
 #[derive(Clone, Copy, Debug, PartialEq, Eq)]
@@ -34,7 +34,7 @@ impl From<Down> for StoreFault {
 /// A disk has a clock: each call makes at most one new moment, and its clause `time` speaks of the images at the
 /// moments since its own start, during the call or after it. A disk that doesn't tell its bytes, as a real file,
 /// meets the clauses on contents with any bytes. After `Down` only `restart` is allowed. `Down` and `Dead` come only
-/// where their counts rose.
+/// where their counts rose, by one in a call, and a call that succeeds leaves these.
 pub trait Disk: Drop {
     /// The bytes as they read, where the disk tells them.
     ghost holds: { Self → Option (List ℕ) };
@@ -57,6 +57,9 @@ pub trait Disk: Drop {
     /// How often it hasn't come back.
     ghost deads: { Self → ℕ };
 
+    /// What a call may make of what decides where the disk stops. It holds of all where the disk doesn't tell that.
+    ghost moves: { Move → Self → Self → Type 0 };
+
     /// The length of the file as it reads.
     fn len(&mut self) -> Result<u64, Down>
         requires { IsTrue (up self.old) }
@@ -67,7 +70,9 @@ pub trait Disk: Drop {
         ensures up { OnOk result (IsTrue (up self.new)) }
         ensures counts { (downs self.old ≤ downs self.new) × (deads self.old ≤ deads self.new) }
         ensures down { OnErr result (up self.new ≡ false) }
-        ensures cause { OnErr result (Rose (downs self.old) (downs self.new)) };
+        ensures cause { OnErr result (Rose (downs self.old) (downs self.new)) }
+        ensures one { CountsOne (downs self.old) (downs self.new) result × (deads self.new ≡ deads self.old) }
+        ensures moves { moves Called self.old self.new };
 
     /// Reads the first bytes from a place on and says how many: none only past the end, or into an empty buffer.
     fn read(&mut self, at: u64, buf: &mut [u8]) -> Result<usize, Down>
@@ -80,7 +85,9 @@ pub trait Disk: Drop {
         ensures up { OnOk result (IsTrue (up self.new)) }
         ensures counts { (downs self.old ≤ downs self.new) × (deads self.old ≤ deads self.new) }
         ensures down { OnErr result (up self.new ≡ false) }
-        ensures cause { OnErr result (Rose (downs self.old) (downs self.new)) };
+        ensures cause { OnErr result (Rose (downs self.old) (downs self.new)) }
+        ensures one { CountsOne (downs self.old) (downs self.new) result × (deads self.new ≡ deads self.old) }
+        ensures moves { moves Called self.old self.new };
 
     /// Writes over what is there, and past the end. Until a sync a stop may leave any of the lengths between, and any
     /// bytes in the range.
@@ -94,7 +101,10 @@ pub trait Disk: Drop {
         ensures up { OnOk result (IsTrue (up self.new)) }
         ensures counts { (downs self.old ≤ downs self.new) × (deads self.old ≤ deads self.new) }
         ensures down { IsErrOf result StoreFault.Down → up self.new ≡ false }
-        ensures cause { IsErrOf result StoreFault.Down → Rose (downs self.old) (downs self.new) };
+        ensures cause { IsErrOf result StoreFault.Down → Rose (downs self.old) (downs self.new) }
+        ensures one { CountsOne (downs self.old) (downs self.new) result × (deads self.new ≡ deads self.old) }
+        ensures moves { IsErrOf result StoreFault.NoMemory ⊎ moves Called self.old self.new }
+        ensures refused { IsErrOf result StoreFault.NoMemory → moves Refused self.old self.new };
 
     /// Cuts the file to a length. Until a sync a stop may leave any of the lengths between, and any bytes past the new end.
     fn cut(&mut self, len: u64) -> Result<(), StoreFault>
@@ -107,7 +117,10 @@ pub trait Disk: Drop {
         ensures up { OnOk result (IsTrue (up self.new)) }
         ensures counts { (downs self.old ≤ downs self.new) × (deads self.old ≤ deads self.new) }
         ensures down { IsErrOf result StoreFault.Down → up self.new ≡ false }
-        ensures cause { IsErrOf result StoreFault.Down → Rose (downs self.old) (downs self.new) };
+        ensures cause { IsErrOf result StoreFault.Down → Rose (downs self.old) (downs self.new) }
+        ensures one { CountsOne (downs self.old) (downs self.new) result × (deads self.new ≡ deads self.old) }
+        ensures moves { IsErrOf result StoreFault.NoMemory ⊎ moves Called self.old self.new }
+        ensures refused { IsErrOf result StoreFault.NoMemory → moves Refused self.old self.new };
 
     /// After `Ok` a stop leaves what a read gives.
     fn sync(&mut self) -> Result<(), Down>
@@ -119,7 +132,9 @@ pub trait Disk: Drop {
         ensures up { OnOk result (IsTrue (up self.new)) }
         ensures counts { (downs self.old ≤ downs self.new) × (deads self.old ≤ deads self.new) }
         ensures down { OnErr result (up self.new ≡ false) }
-        ensures cause { OnErr result (Rose (downs self.old) (downs self.new)) };
+        ensures cause { OnErr result (Rose (downs self.old) (downs self.new)) }
+        ensures one { CountsOne (downs self.old) (downs self.new) result × (deads self.new ≡ deads self.old) }
+        ensures moves { moves Called self.old self.new };
 
     /// Brings the disk back. It then reads as one of its images, and nothing waits for a sync.
     fn restart(&mut self) -> Result<(), Dead>
@@ -130,7 +145,9 @@ pub trait Disk: Drop {
         ensures up { OnOk result (IsTrue (up self.new)) }
         ensures counts { (downs self.old ≤ downs self.new) × (deads self.old ≤ deads self.new) }
         ensures down { OnErr result (up self.new ≡ false) }
-        ensures cause { OnErr result (Rose (deads self.old) (deads self.new)) };
+        ensures cause { OnErr result (Rose (deads self.old) (deads self.new)) }
+        ensures one { CountsOne (deads self.old) (deads self.new) result × (downs self.new ≡ downs self.old) }
+        ensures moves { moves Restarted self.old self.new };
 
     /// This moment is one of those since an earlier one.
     ghost counts_now: { (disk : Self) (t : ℕ) (c : List ℕ) → t ≤ moment disk → may_leave disk c → left_since disk t c };

@@ -19,6 +19,9 @@ pub struct MemDisk {
 }
 
 impl MemDisk {
+    ghost use Rattle.dap_disk.specs.Moves.{plan_of};
+    ghost use Rattle.dap_disk.specs.Plan.{begun};
+
     /// A disk with these bytes, all of them synced. Its calls other than `restart` count from 1. At a listed call it
     /// answers `Down`, and the next restart leaves that stop's image. Restart number `dead_from` and all later ones
     /// answer `Dead`. `write_at` and `cut` take their memory first, with what a later sync or restart needs; where
@@ -28,6 +31,7 @@ impl MemDisk {
         ensures synced { Only (Some bytes.items) (⟦<MemDisk as Disk>⟧.may_leave result) }
         ensures up { IsTrue (⟦<MemDisk as Disk>⟧.up result) }
         ensures counts { (⟦<MemDisk as Disk>⟧.downs result ≡ 0) × (⟦<MemDisk as Disk>⟧.deads result ≡ 0) }
+        ensures listed { plan_of result ≡ begun stops dead_from }
     {
         MemDisk {
             store: Store::new(alloc, bytes),
@@ -44,6 +48,8 @@ impl MemDisk {
 }
 
 impl Disk for MemDisk {
+    ghost use Rattle.dap_disk.specs.Moves.{Moved};
+
     ghost holds = { λ m. Some (held_after m.store.first.items m.store.events.items) };
 
     ghost up = { λ m. m.plan.up };
@@ -57,6 +63,8 @@ impl Disk for MemDisk {
     ghost downs = { λ m. m.plan.downs };
 
     ghost deads = { λ m. m.plan.deads };
+
+    ghost moves = { λ move old new. Moved move old new };
 
     ghost counts_now = { λ m t c le now. was_now m.store.first.items m.store.events.items t c le now };
 

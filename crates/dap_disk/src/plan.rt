@@ -1,7 +1,7 @@
 //! When a disk in memory stops.
 ghost use Rattle.std.specs.Prelude.{◌≡◌, ◌≤◌, ◌+◌, ◌-◌, ◌^◌, ◌↔◌, min, true, false, Some, None, IfSome, IfNone, IsSome, IsTrue, MatchOption};
 ghost use Rattle.dap_bytes.specs.Causes.{Rose};
-ghost use Rattle.dap_disk.specs.Plan.{image_at};
+ghost use Rattle.dap_disk.specs.Plan.{image_at, begun, next_stop, after_call, comes_back, after_restart};
 
 use crate::{Image, Stop};
 
@@ -22,9 +22,7 @@ pub(crate) struct Plan {
 impl Plan {
     /// No call made yet.
     pub(crate) fn new(stops: Vec<Stop>, dead_from: Option<u64>) -> Plan
-        ensures given { (result.stops.items ≡ stops.items) × (result.dead_from ≡ dead_from) }
-        ensures none_made { (result.calls ≡ 0) × (result.restarts ≡ 0) }
-        ensures up { (result.up ≡ true) × (result.downs ≡ 0) × (result.deads ≡ 0) }
+        ensures { result ≡ begun stops dead_from }
     {
         Plan {
             stops,
@@ -44,6 +42,7 @@ impl Plan {
         ensures goes_on { result ≡ false → (image_at self.old.stops.items self.new.calls ≡ None) × (self.new ≡ record self.old { calls = self.new.calls }) }
         ensures stops { result ≡ true → (image_at self.old.stops.items self.new.calls ≡ Some self.new.image) × Rose self.old.downs self.new.downs × (self.new ≡ record self.old { calls = self.new.calls; image = self.new.image; up = false; downs = self.new.downs }) }
         ensures counts { (self.old.downs ≤ self.new.downs) × (self.old.deads ≤ self.new.deads) }
+        ensures next { self.new ≡ after_call self.old }
     {
         self.calls = self.calls.saturating_add(1);
         match image_at(&self.stops, self.calls) {
@@ -64,6 +63,8 @@ impl Plan {
         ensures image { IfSome result (λ image. image ≡ self.old.image) }
         ensures told { MatchOption result (Rose self.old.deads self.new.deads × (self.new.up ≡ false)) (λ _. self.new.up ≡ true) }
         ensures counts { (self.old.downs ≤ self.new.downs) × (self.old.deads ≤ self.new.deads) }
+        ensures left { result ≡ comes_back self.old }
+        ensures next { self.new ≡ after_restart self.old }
     {
         self.restarts = self.restarts.saturating_add(1);
         if self.dead_from.is_some_and(|from| from <= self.restarts) {

@@ -1,5 +1,5 @@
 //! A disk that tells nothing, as a real file.
-ghost use Rattle.std.specs.Prelude.{◌≡◌, ◌≤◌, false, None, IsTrue, OnOk, OnErr};
+ghost use Rattle.std.specs.Prelude.{◌≡◌, ◌≤◌, ◌+◌, false, None, IsTrue, OnOk, OnErr};
 ghost use Rattle.dap_bytes.specs.Causes.{Rose};
 
 use crate::{Dead, Disk, Down, StoreFault};
@@ -28,6 +28,7 @@ impl Blind {
         ensures ok { OnOk result ((self.new.up ≡ self.old.up) × (self.new.downs ≡ self.old.downs)) }
         ensures err { OnErr result ((self.new.up ≡ false) × Rose self.old.downs self.new.downs) }
         ensures later { self.old.downs ≤ self.new.downs }
+        ensures one { self.new.downs ≤ self.old.downs + 1 }
     {
         self.calls = self.calls.saturating_add(1);
         if self.calls <= 3 {
@@ -53,6 +54,8 @@ impl Disk for Blind {
     ghost downs = { λ d. d.downs };
 
     ghost deads = { λ _. 0 };
+
+    ghost moves = { λ _ _ _. Unit {0} };
 
     ghost counts_now = { λ d t c le now. now };
 
