@@ -3,7 +3,6 @@ use Rattle.std.specs.Prelude.{◌≡◌, ◌≢◌, ◌⊎◌, ℕ, ◌+◌, ◌
 use Rattle.std.specs.List.{flat_map}
 use Rattle.std.specs.Int.{to_be_bytes, w32}
 use Rattle.dap_disk.specs.Disk.{written}
-use Rattle.report_journal.specs.declared.block.TheConstants.{MAX_BLOCK}
 
 -- a record behind its length
 abbrev pub framed : List ℕ → List ℕ
@@ -25,10 +24,10 @@ blocks parts = flat_map block parts
 abbrev pub all_records : List (List (List ℕ)) → List (List ℕ)
 all_records parts = flat_map (λ records. records) parts
 
--- records that one block may have
+-- records that one block may have: 16 MiB with their lengths at most
 pub record IsBlock (records : List (List ℕ)) : Type 0 where
   pub some : 0 < length records
-  pub size : length (body records) ≤ MAX_BLOCK
+  pub size : length (body records) ≤ 16777216
 
 -- each is such records
 abbrev pub AreBlocks : List (List (List ℕ)) → Type 0

@@ -191,6 +191,8 @@ impl<D: Disk> Log<D> {
         ensures images { Leaves D.may_leave self.new }
         ensures dead { IsErrOf result RestartFault.Dead → Rose (D.deads self.old.disk) (D.deads self.new.disk) }
         ensures down { IsErrOf result RestartFault.Down → Rose (D.downs self.old.disk) (D.downs self.new.disk) }
+        ensures calm { (IsErrOf result RestartFault.Down ⊎ (D.downs self.new.disk ≡ D.downs self.old.disk)) × (IsErrOf result RestartFault.Dead ⊎ (D.deads self.new.disk ≡ D.deads self.old.disk)) }
+        ensures one { (D.downs self.new.disk ≤ D.downs self.old.disk + 1) × (D.deads self.new.disk ≤ D.deads self.old.disk + 1) }
         ensures counts { (D.downs self.old.disk ≤ D.downs self.new.disk) × (D.deads self.old.disk ≤ D.deads self.new.disk) }
     {
         self.up = false;

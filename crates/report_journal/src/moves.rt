@@ -1,5 +1,5 @@
 //! What an append and a restart do to the disk.
-ghost use Rattle.std.specs.Prelude.{◌≡◌, ◌≤◌, ◌<◌, ◌^◌, ◌+◌, ◌++◌, ◌↔◌, [], ◌∷◌, List, ℕ, length, take, drop, slice_index, IfOk, OnOk, IsErrOf, IsTrue};
+ghost use Rattle.std.specs.Prelude.{◌≡◌, ◌⊎◌, ◌≤◌, ◌<◌, ◌^◌, ◌+◌, ◌++◌, ◌↔◌, [], ◌∷◌, List, ℕ, length, take, drop, slice_index, IfOk, OnOk, IsErrOf, IsTrue};
 ghost use Rattle.dap_bytes.specs.Causes.{Rose};
 ghost use Rattle.dap_disk.specs.Disk.{Tells, NoMore, LeavesOnly, Only, of_told, written};
 ghost use Rattle.report_journal.specs.Journal.{Closed, Staged, Either, IsBlock, behind};
@@ -97,6 +97,8 @@ pub(crate) fn gate_after_restart<D: Disk>(disk: &mut D, gate: u64) -> Result<boo
     ensures counts { (D.downs disk.old ≤ D.downs disk.new) × (D.deads disk.old ≤ D.deads disk.new) }
     ensures dead { IsErrOf result RestartFault.Dead → Rose (D.deads disk.old) (D.deads disk.new) }
     ensures down { IsErrOf result RestartFault.Down → Rose (D.downs disk.old) (D.downs disk.new) }
+    ensures calm { (IsErrOf result RestartFault.Down ⊎ (D.downs disk.new ≡ D.downs disk.old)) × (IsErrOf result RestartFault.Dead ⊎ (D.deads disk.new ≡ D.deads disk.old)) }
+    ensures one { (D.downs disk.new ≤ D.downs disk.old + 1) × (D.deads disk.new ≤ D.deads disk.old + 1) }
 {
     disk.restart()?;
     let mut byte = [0];

@@ -1,5 +1,5 @@
 //! A journal that goes on through stops.
-ghost use Rattle.std.specs.Prelude.{◌≡◌, ◌⊎◌, ◌≤◌, ◌<◌, ◌-◌, ◌++◌, [], List, ℕ, length, IfOk, OnOk, OnErr, IsErrOf, IsTrue, false};
+ghost use Rattle.std.specs.Prelude.{◌≡◌, ◌⊎◌, ◌≤◌, ◌<◌, ◌+◌, ◌-◌, ◌++◌, [], List, ℕ, length, IfOk, OnOk, OnErr, IsErrOf, IsTrue, false};
 ghost use Rattle.dap_bytes.specs.Causes.{Rose};
 ghost use Rattle.dap_disk.specs.Disk.{Tells, LeavesOnly};
 ghost use Rattle.report_journal.specs.Journal.{Stands};
@@ -15,7 +15,7 @@ impl<D: Disk> Log<D> {
     /// down, with the records and the block in hand as before.
     pub fn restart_through(&mut self, stops: u32) -> Result<u32, RestartFault>
         requires { 0 < stops }
-        ensures left { IfOk result (λ left. (0 < left) × (left ≤ stops) × RoseBy (stops - left) (D.downs self.old.disk) (D.downs self.new.disk)) }
+        ensures left { IfOk result (λ left. (0 < left) × (left ≤ stops) × RoseBy (stops - left) (D.downs self.old.disk) (D.downs self.new.disk) × (D.downs self.new.disk ≤ D.downs self.old.disk + (stops - left))) }
         ensures records { OnOk result (IsTrue self.new.up × ((self.new.records ≡ self.old.records) ⊎ (self.new.records ≡ self.old.records ++ self.old.coming))) }
         ensures told { OnOk result (Tells (D.holds self.new.disk) (Stands self.new.records)) }
         ensures durable { OnOk result ((c : List ℕ) → D.may_leave self.new.disk c → Stands self.new.records c) }
@@ -26,6 +26,11 @@ impl<D: Disk> Log<D> {
         ensures dead { IsErrOf result RestartFault.Dead → Rose (D.deads self.old.disk) (D.deads self.new.disk) }
         ensures down { IsErrOf result RestartFault.Down → RoseBy stops (D.downs self.old.disk) (D.downs self.new.disk) }
         ensures counts { (D.downs self.old.disk ≤ D.downs self.new.disk) × (D.deads self.old.disk ≤ D.deads self.new.disk) }
+
+        // No more stops are counted than it may bear, and no fault but the one that it gives up with.
+        ensures bound { D.downs self.new.disk ≤ D.downs self.old.disk + stops }
+        ensures calm { IsErrOf result RestartFault.Dead ⊎ (D.deads self.new.disk ≡ D.deads self.old.disk) }
+        ensures one { D.deads self.new.disk ≤ D.deads self.old.disk + 1 }
     {
         let mut left = stops;
         'tries: loop {

@@ -1,4 +1,4 @@
-use Rattle.std.proofs.Common.{Err, ap, ◌∙◌, arith}
+use Rattle.std.proofs.Common.{Err, ⊎_elim, ap, ◌∙◌, arith}
 use Rattle.dap_disk.specs.Runs.{then}
 use Rattle.report_journal.specs.Retry.{WithOrWithout, same_run}
 use Rattle.report_journal.proofs.log.Log.restart_through.Goals as goal
@@ -35,8 +35,9 @@ tries-preserved g c =
       some = omega (arith, inv.some, c.if-left-eq1.false);
       left = omega (arith, inv.left);
       downs = omega (arith, inv.downs, inv.some, inv.left, rose);
+      bound = omega (arith, inv.bound, inv.some, inv.left, c.restart.ensures.one.0);
       later = omega (arith, inv.later, c.restart.ensures.counts.0);
-      deads = omega (arith, inv.deads, c.restart.ensures.counts.1);
+      deads = ⊎_elim (λ dead. absurd (cc)) (λ same. same ∙ inv.deads) c.restart.ensures.calm.1;
       records = same.1 ∙ inv.records;
       coming = same.2 ∙ inv.coming;
       goes = λ w rest. inv.goes w (then g.D.Disk.moment g.D.Disk.left_since c.tries.self.disk c.restart.new.self.disk w (WithOrWithout c.args.self.now.records c.args.self.now.coming) run rest);
