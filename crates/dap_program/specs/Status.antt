@@ -1,5 +1,6 @@
--- Which status an error becomes, and the number of a status.
-use Rattle.std.specs.Prelude.{ℕ}
+-- Which status an error becomes, and the number and the text of a status.
+use Rattle.std.specs.Prelude.{ℕ, List, ◌++◌, codes}
+use Rattle.std.specs.Fmt.{decimal}
 use Rattle.dap_outside.specs.declared.files.FileFault.{FileFault}
 use Rattle.dap_outside.specs.declared.files.FileFault.TheVariants as file
 use Rattle.dap_outside.specs.declared.sink.SinkFault.{SinkFault}
@@ -42,3 +43,15 @@ number_of WriteFault = 5
 number_of (Limit line limit) = 11
 number_of NoMemory = 12
 number_of (NotYet line) = 13
+
+-- the text of a status, as it is printed on standard error behind the name of the program
+abbrev pub text_of : Status → List ℕ
+text_of Done = codes "done"
+text_of (Usage word) = codes "usage: word " ++ decimal word
+text_of (TasksRefused task field) = codes "tasks refused: task " ++ decimal task ++ codes " field " ++ field
+text_of (ScriptRefused line) = codes "script refused: line " ++ decimal line
+text_of (NotYet line) = codes "not yet: line " ++ decimal line
+text_of ReadFault = codes "read fault"
+text_of WriteFault = codes "write fault"
+text_of (Limit line limit) = codes "limit " ++ decimal limit ++ codes " at line " ++ decimal line
+text_of NoMemory = codes "no memory"
