@@ -29,14 +29,15 @@ pub trait Files {
     ghost faults: { Self → ℕ };
 
     /// The first 1,048,577 bytes of the file of this name, or all where it is shorter.
-    /// It fails only where the faults rose, and else they stay; a file that isn't there raises them. No file changes.
+    /// It fails only where the faults rose by one, as for a file that isn't there, and else they stay. No file changes.
     fn read_file(&mut self, alloc: Global, name: &str) -> Result<Vec<u8>, FileFault>
         ensures bytes { IfOk result (λ read. IfSome (contents self.old name.now) (λ bytes. read.items ≡ take 1048577 bytes)) }
         ensures size { IfOk result (λ read. length read.items ≤ 1048577) }
         ensures kept { (file : List ℕ) → contents self.new file ≡ contents self.old file }
         ensures later { faults self.old ≤ faults self.new }
         ensures failed { IsErrOf result FileFault.Failed → Rose (faults self.old) (faults self.new) }
-        ensures calm { IsErrOf result FileFault.Failed ⊎ (faults self.new ≡ faults self.old) };
+        ensures calm { IsErrOf result FileFault.Failed ⊎ (faults self.new ≡ faults self.old) }
+        ensures one { faults self.new ≤ faults self.old + 1 };
 }
 
 /// Files in memory, by name; of two of one name the first counts. Readings fail at the calls that are listed, counted
@@ -101,6 +102,7 @@ impl Files for MemFiles {
         ensures later { failed_calls self.old.plan + self.old.missed ≤ failed_calls self.new.plan + self.new.missed }
         ensures failed { IsErrOf result FileFault.Failed → Rose (failed_calls self.old.plan + self.old.missed) (failed_calls self.new.plan + self.new.missed) }
         ensures calm { IsErrOf result FileFault.Failed ⊎ (failed_calls self.new.plan + self.new.missed ≡ failed_calls self.old.plan + self.old.missed) }
+        ensures one { failed_calls self.new.plan + self.new.missed ≤ failed_calls self.old.plan + self.old.missed + 1 }
 
         // It fails exactly at the listed calls and where there is no such file. Without memory nothing changes.
         ensures fails { IsErrOf result FileFault.Failed → IsTrue (reading_fails self.old) ⊎ (file_of self.old name.now ≡ None) }

@@ -1,6 +1,6 @@
 //! The calls at which a device in memory fails.
 
-ghost use Rattle.std.specs.Prelude.{◌≡◌, ◌≤◌, IsTrue, false};
+ghost use Rattle.std.specs.Prelude.{◌≡◌, ◌≤◌, ◌+◌, IsTrue, false};
 ghost use Rattle.dap_bytes.specs.Causes.{Rose};
 
 /// The calls that fail, counted from 1, and how many calls were made.
@@ -37,6 +37,7 @@ impl Plan {
         ensures later { failed_calls self.old ≤ failed_calls self.new }
         ensures risen { IsTrue (fails_next self.old) → Rose (failed_calls self.old) (failed_calls self.new) }
         ensures calm { fails_next self.old ≡ false → failed_calls self.new ≡ failed_calls self.old }
+        ensures one { failed_calls self.new ≤ failed_calls self.old + 1 }
     {
         self.calls = self.calls.saturating_add(1);
     }

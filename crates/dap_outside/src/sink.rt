@@ -1,6 +1,6 @@
 //! Where bytes go.
 
-ghost use Rattle.std.specs.Prelude.{◌≡◌, ◌≤◌, ◌<◌, ◌⊎◌, false, List, ℕ, [], length, Option, Some, IfOk, IsOk, IsErrOf, IsTrue};
+ghost use Rattle.std.specs.Prelude.{◌≡◌, ◌≤◌, ◌<◌, ◌+◌, ◌⊎◌, false, List, ℕ, [], length, Option, Some, IfOk, IsOk, IsErrOf, IsTrue};
 ghost use Rattle.std.specs.Io.{WritesAtMost};
 ghost use Rattle.std.specs.Io.KnownBytes.{WriteAppends};
 ghost use Rattle.dap_bytes.specs.Causes.{Rose};
@@ -27,14 +27,15 @@ pub trait Sink {
     ghost faults: { Self → ℕ };
 
     /// Takes the first bytes, at least one of a piece that isn't empty, and says how many.
-    /// It fails only where the faults rose, and else they stay. A refusal leaves what is held.
+    /// It fails only where the faults rose by one, and else they stay. A refusal leaves what is held.
     fn write(&mut self, bytes: &[u8]) -> Result<usize, SinkFault>
         ensures bound { WritesAtMost result bytes.now }
         ensures some { 0 < length bytes.now → IfOk result (λ n. 0 < n) }
         ensures bytes { WriteAppends (held self.old) (held self.new) result bytes.now }
         ensures later { faults self.old ≤ faults self.new }
         ensures failed { IsErrOf result SinkFault.Failed → Rose (faults self.old) (faults self.new) }
-        ensures calm { IsErrOf result SinkFault.Failed ⊎ (faults self.new ≡ faults self.old) };
+        ensures calm { IsErrOf result SinkFault.Failed ⊎ (faults self.new ≡ faults self.old) }
+        ensures one { faults self.new ≤ faults self.old + 1 };
 }
 
 /// Keeps what is written in memory. Its writes fail at the calls that are listed, counted from 1.
@@ -81,6 +82,7 @@ impl Sink for MemSink {
         ensures later { failed_calls self.old.plan ≤ failed_calls self.new.plan }
         ensures failed { IsErrOf result SinkFault.Failed → Rose (failed_calls self.old.plan) (failed_calls self.new.plan) }
         ensures calm { IsErrOf result SinkFault.Failed ⊎ (failed_calls self.new.plan ≡ failed_calls self.old.plan) }
+        ensures one { failed_calls self.new.plan ≤ failed_calls self.old.plan + 1 }
 
         // It fails at the listed calls alone, and else takes all. Without memory nothing changes.
         ensures fails { IsErrOf result SinkFault.Failed → IsTrue (write_fails self.old) }

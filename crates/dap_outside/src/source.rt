@@ -1,6 +1,6 @@
 //! Where bytes come from.
 
-ghost use Rattle.std.specs.Prelude.{◌≡◌, ◌≤◌, ◌↔◌, List, ℕ, Option, Some, drop, length, min, take, IsErr, IsTrue, IfOk, OnOk};
+ghost use Rattle.std.specs.Prelude.{◌≡◌, ◌≤◌, ◌+◌, ◌↔◌, List, ℕ, Option, Some, drop, length, min, take, IsErr, IsTrue, IfOk, OnOk};
 ghost use Rattle.std.specs.Io.{ReadsAtMost};
 ghost use Rattle.std.specs.Io.KnownBytes.{ReadConsumes};
 ghost use Rattle.dap_bytes.specs.Causes.{HasCause};
@@ -22,12 +22,13 @@ pub trait Source {
 
     /// Takes bytes from the front of what is left into the front of the buffer, and says how many.
     /// 0 for a buffer that isn't empty is the end.
-    /// It fails only where the faults rose, and then nothing was taken. Else they stay.
+    /// It fails only where the faults rose by one, and then nothing was taken. Else they stay.
     fn read(&mut self, buf: &mut [u8]) -> Result<usize, Failed>
         ensures bound { ReadsAtMost result buf.new }
         ensures bytes { ReadConsumes (left self.old) (left self.new) result buf.new }
         ensures cause { HasCause (faults self.old) (faults self.new) result }
-        ensures calm { OnOk result (faults self.new ≡ faults self.old) };
+        ensures calm { OnOk result (faults self.new ≡ faults self.old) }
+        ensures one { faults self.new ≤ faults self.old + 1 };
 }
 
 /// Copies as many bytes as there are and as there is room for, and says how many.
@@ -78,6 +79,7 @@ impl Source for MemSource {
         ensures bytes { ReadConsumes (Some (bytes_left self.old)) (Some (bytes_left self.new)) result buf.new }
         ensures cause { HasCause (failed_calls self.old.plan) (failed_calls self.new.plan) result }
         ensures calm { OnOk result (failed_calls self.new.plan ≡ failed_calls self.old.plan) }
+        ensures one { failed_calls self.new.plan ≤ failed_calls self.old.plan + 1 }
 
         // It fails exactly at the listed calls, and else fills the buffer as far as bytes are left.
         ensures fails { IsErr result ↔ IsTrue (read_fails self.old) }
