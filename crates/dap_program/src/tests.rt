@@ -10,7 +10,7 @@ use std::alloc::Global;
 use std::process::Abort;
 use std::test::Fail;
 
-pub const THREE_REPORTS: &str = "task v count 3 3600
+const THREE_REPORTS: &str = "task v count 3 3600
 measure v 00000000000000000000000000000001 10 1 00000000000000000000000000000001
 measure v 00000000000000000000000000000002 20 0 00000000000000000000000000000002
 measure v 00000000000000000000000000000003 3599 1 00000000000000000000000000000003
@@ -18,7 +18,7 @@ collect v 0
 ";
 
 /// A task file with the count task `v`, whose keys are rising bytes.
-pub const ONE_TASK: &str = "[[task]]
+const ONE_TASK: &str = "[[task]]
 name = \"v\"
 kind = \"count\"
 min = 3
@@ -29,7 +29,7 @@ helper = \"303132333435363738393a3b3c3d3e3f404142434445464748494a4b4c4d4e4f\"
 ";
 
 /// A task line for each of these numbers.
-pub fn task_lines(alloc: Global, from: u32, to: u32) -> Result<String, Fail> {
+fn task_lines(alloc: Global, from: u32, to: u32) -> Result<String, Fail> {
     let mut lines = String::new(alloc);
     for number in from..to {
         let line = format!(in alloc; "task t{number} count 1 1\n")?;
@@ -39,7 +39,7 @@ pub fn task_lines(alloc: Global, from: u32, to: u32) -> Result<String, Fail> {
 }
 
 /// Words as they are handed in.
-pub fn given_words(alloc: Global, words: &[&str]) -> Result<Vec<String>, Fail> {
+fn given_words(alloc: Global, words: &[&str]) -> Result<Vec<String>, Fail> {
     let mut given = Vec::new(alloc);
     for word in words {
         given.push(String::from_str(alloc, word)?)?;
@@ -48,7 +48,7 @@ pub fn given_words(alloc: Global, words: &[&str]) -> Result<Vec<String>, Fail> {
 }
 
 /// Files in memory that never fail.
-pub fn given_files(alloc: Global, files: &[(&str, &str)]) -> Result<MemFiles, Fail> {
+fn given_files(alloc: Global, files: &[(&str, &str)]) -> Result<MemFiles, Fail> {
     let mut given = Vec::new(alloc);
     for (name, text) in files {
         given.push((
@@ -61,7 +61,7 @@ pub fn given_files(alloc: Global, files: &[(&str, &str)]) -> Result<MemFiles, Fa
 
 /// Ends the process unless the call with these words, over these files and this script, gives the status of this number
 /// and this text, and prints this.
-pub fn check_call(
+fn check_call(
     rt: &impl Abort,
     alloc: Global,
     words: &[&str],
