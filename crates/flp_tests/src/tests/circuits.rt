@@ -68,3 +68,13 @@ fn encodings(rt: HostRuntime) -> Result<(), Fail> {
     check_elements(&rt, &largest, &[1; 64]);
     Ok(())
 }
+
+#[test]
+fn faults_of_encodings_are_printed(rt: HostRuntime) -> Result<(), Fail> {
+    let alloc = rt.alloc();
+    let bad = format!(in alloc; "{}", EncodeFault::BadValue)?;
+    assert_eq!(rt; bad.as_str(), "the value is not of the kind");
+    let no_memory = format!(in alloc; "{}", EncodeFault::NoMemory)?;
+    assert_eq!(rt; no_memory.as_str(), "out of memory");
+    Ok(())
+}

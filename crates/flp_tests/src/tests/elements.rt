@@ -15,7 +15,7 @@ fn elements<F: Field>(alloc: Global, numbers: &[u128]) -> Result<Vec<F>, AllocEr
 }
 
 /// A vector that has to have this size.
-pub fn sized<F: Field>(rt: &impl Abort, xs: Vec<F>, size: usize) -> Vec<F>
+pub(super) fn sized<F: Field>(rt: &impl Abort, xs: Vec<F>, size: usize) -> Vec<F>
     ensures { length result.items ≡ size }
 {
     assert_eq!(rt; xs.len(), size);
@@ -23,7 +23,7 @@ pub fn sized<F: Field>(rt: &impl Abort, xs: Vec<F>, size: usize) -> Vec<F>
 }
 
 /// The elements of these numbers, of which there have to be so many.
-pub fn sized_elements<F: Field>(
+pub(super) fn sized_elements<F: Field>(
     rt: &impl Abort,
     alloc: Global,
     numbers: &[u128],
@@ -36,17 +36,17 @@ pub fn sized_elements<F: Field>(
 }
 
 /// Ends the test unless the number is the wanted one.
-pub fn check_number(rt: &impl Abort, number: u128, want: u128) {
+pub(super) fn check_number(rt: &impl Abort, number: u128, want: u128) {
     assert_eq!(rt; number, want);
 }
 
 /// Ends the test unless the answer is the wanted one.
-pub fn check_flag(rt: &impl Abort, flag: bool, want: bool) {
+pub(super) fn check_flag(rt: &impl Abort, flag: bool, want: bool) {
     assert_eq!(rt; flag, want);
 }
 
 /// Ends the test unless the elements have the wanted numbers.
-pub fn check_elements<F: Field>(rt: &impl Abort, got: &[F], want: &[u128]) {
+pub(super) fn check_elements<F: Field>(rt: &impl Abort, got: &[F], want: &[u128]) {
     assert_eq!(rt; got.len(), want.len());
     for (element, want) in got.iter().zip(want) {
         check_number(rt, element.value(), *want);
@@ -54,7 +54,11 @@ pub fn check_elements<F: Field>(rt: &impl Abort, got: &[F], want: &[u128]) {
 }
 
 /// Elements by a plain linear congruence, for numbers that no one chose.
-pub fn drawn<F: Field>(alloc: Global, seed: u64, count: usize) -> Result<Vec<F>, AllocError> {
+pub(super) fn drawn<F: Field>(
+    alloc: Global,
+    seed: u64,
+    count: usize,
+) -> Result<Vec<F>, AllocError> {
     let mut state = seed;
     let mut made = Vec::new(alloc);
     for _i in 0..count {
@@ -67,7 +71,7 @@ pub fn drawn<F: Field>(alloc: Global, seed: u64, count: usize) -> Result<Vec<F>,
 }
 
 /// The circuit of three buckets.
-pub fn between_10_and_20<F: Field>(alloc: Global) -> Result<Histogram<F>, AllocError> {
+pub(super) fn between_10_and_20<F: Field>(alloc: Global) -> Result<Histogram<F>, AllocError> {
     let mut bounds = Vec::new(alloc);
     bounds.push(10)?;
     bounds.push(20)?;

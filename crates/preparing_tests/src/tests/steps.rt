@@ -61,7 +61,7 @@ fn check_stage(rt: &impl Abort, got: Stage, want: Stage) {
 }
 
 /// Each step of the report gives what it has to.
-pub fn check_steps<C: Circuit>(
+pub(super) fn check_steps<C: Circuit>(
     rt: &impl Abort,
     alloc: Global,
     c: &C,
@@ -175,7 +175,7 @@ fn longer(alloc: Global, bytes: &[u8]) -> Result<Vec<u8>, AllocError> {
 }
 
 /// A changed byte in any part of the report is refused when the prep shares are combined.
-pub fn check_changed_bytes<C: Circuit>(
+pub(super) fn check_changed_bytes<C: Circuit>(
     rt: &impl Abort,
     alloc: Global,
     c: &C,
@@ -202,7 +202,7 @@ pub fn check_changed_bytes<C: Circuit>(
 
 /// A part of another length is refused at once, and so is an element that isn't below the modulus, whose bytes are
 /// those of `modulus` here.
-pub fn check_inits<C: Circuit>(
+pub(super) fn check_inits<C: Circuit>(
     rt: &impl Abort,
     alloc: Global,
     c: &C,
@@ -229,7 +229,7 @@ pub fn check_inits<C: Circuit>(
 
 /// Prep shares of another length or with the modulus as an element are refused, and so is another message than the
 /// state's.
-pub fn check_joining<C: Circuit>(
+pub(super) fn check_joining<C: Circuit>(
     rt: &impl Abort,
     alloc: Global,
     c: &C,
@@ -265,7 +265,7 @@ pub fn check_joining<C: Circuit>(
 }
 
 /// Another part in a prep share is refused by the states.
-pub fn check_other_part<C: Circuit>(
+pub(super) fn check_other_part<C: Circuit>(
     rt: &impl Abort,
     alloc: Global,
     c: &C,

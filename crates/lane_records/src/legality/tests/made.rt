@@ -52,7 +52,7 @@ pub enum Made {
 }
 
 /// The record that is described.
-pub fn record(alloc: Global, made: Made) -> Result<Record, Fail> {
+pub(super) fn record(alloc: Global, made: Made) -> Result<Record, Fail> {
     match made {
         LeaderFrontOpen(lanes) => Ok(Record::LeaderFrontOpen(lanes)),
         LeaderTask(of, precision) => Ok(Record::LeaderTask(task(of, 1, precision)?)),
