@@ -1,12 +1,20 @@
 -- Lemmas: answers made of a call's clauses.
-use Rattle.std.proofs.Common.{◌≡◌, ℕ, List, Option, Some, Result, Ok, Err, IfOk, Vec, Global, sym, ap, ◌∙◌}
+use Rattle.std.proofs.Common.{◌≡◌, ℕ, List, Option, Some, None, Result, Ok, Err, IfOk, Vec, Global, sym, ap, ◌∙◌, refl}
 use Rattle.std.specs.Option.{option_and_then}
+use Rattle.flp_proof.specs.declared.querying.QueryFault.{QueryFault}
+use Rattle.flp_proof.specs.declared.querying.QueryFault.TheVariants as query
 use Rattle.vdaf_api.specs.declared.fault.PrepFault.{PrepFault}
 use Rattle.vdaf_api.specs.declared.fault.PrepFault.TheVariants.{Invalid, NoMemory}
 use Rattle.vdaf_api.specs.Answered.{Starts}
 use Rattle.prio3_share.specs.Preparing.{Started, finish}
 use Rattle.prio3_prep.specs.declared.state.State.{State}
-use Rattle.prio3_prep.specs.States.{Begins, started, state_finish}
+use Rattle.prio3_prep.specs.Faults.{of_query}
+use Rattle.prio3_prep.specs.States.{Begins, Faults, started, state_finish}
+
+-- a fault of querying, which is a root where there is no value
+pub faults-queried : {B : Type 0} (fault : QueryFault) (o : Option B) → (fault ≡ query.Root → o ≡ None) → Faults (of_query fault) o
+faults-queried query.Root o h = h refl
+faults-queried query.NoMemory o h = tt
 
 -- what holds of each value of the definition holds of what a call gives
 pub of-value : {A B : Type 0} (f : A → B) (P : B → Type 0) (o : Option B) (r : Result A PrepFault) → ((v : B) → o ≡ Some v → P v) → Begins f r o → IfOk r (λ a. P (f a))

@@ -3,6 +3,7 @@
 //! calls, and the laws of a circuit's measurement function, among them that an honest report is accepted.
 #![tactic(auto)]
 
+mod faults;
 mod half;
 mod joining;
 mod laws;

@@ -7,8 +7,8 @@ ghost use Rattle.prio3_share.specs.Sharing.{joint_bytes};
 ghost use Rattle.prio3_share.specs.Preparing.{elements_of, half_of, verifier_bytes, verifier_of};
 ghost use Rattle.prio3_prep.specs.States.{Begins, Sizes, bytes_in, held};
 
+use crate::faults::of_draw;
 use crate::half::InputHalf;
-use aes_cmac_prg::DrawFault;
 use field_laws::Field;
 use flp_circuits::Circuit;
 use flp_proof::proof_len;
@@ -29,11 +29,7 @@ pub(crate) fn draw<F: Field>(
     ensures drawn { Begins (λ v. v.items) result (drawn_for ⟦<F as Based>⟧.base kind seed.now usage rest.now n) }
     ensures size { IfOk result (λ v. length v.items ≡ n) }
 {
-    match draw_for(alloc, kind, seed, usage, rest, n) {
-        Ok(elements) => Ok(elements),
-        Err(DrawFault::Spent) => Err(PrepFault::Invalid),
-        Err(DrawFault::NoMemory) => Err(PrepFault::NoMemory),
-    }
+    draw_for(alloc, kind, seed, usage, rest, n).map_err(of_draw)
 }
 
 /// The `n` elements that these bytes spell.

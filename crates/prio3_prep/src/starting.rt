@@ -7,13 +7,14 @@ ghost use Rattle.prio3_share.specs.Preparing.{helper_part_for, leader_part_for, 
 ghost use Rattle.prio3_prep.specs.States.{Begins, bytes_in, held, started, state_finish};
 ghost use Rattle.prio3_prep.specs.Parts.{after_half, begun};
 
+use crate::faults::of_query;
 use crate::half::InputHalf;
 use crate::reading::{draw, half_for, joint_bytes};
 use crate::state::State;
 use dap_bytes::Id;
 use field_laws::Field;
 use flp_circuits::Circuit;
-use flp_proof::{QueryFault, query};
+use flp_proof::query;
 use prio3_share::{Based, Usage, joint_seed_of, part_of, push_elements};
 use std::alloc::{AllocError, Global};
 use vdaf_api::{PrepFault, Role};
@@ -69,8 +70,7 @@ fn at_point<C: Circuit>(
         point[0],
     ) {
         Ok(verifier) => Ok(with_verifier(alloc, c, &half.x, &verifier, own, joint_seed)?),
-        Err(QueryFault::Root) => Err(PrepFault::Invalid),
-        Err(QueryFault::NoMemory) => Err(PrepFault::NoMemory),
+        Err(fault) => Err(of_query(fault)),
     }
 }
 

@@ -1,4 +1,5 @@
 pub mod Base
+pub mod Faults
 pub mod Texts
 pub mod Sharing
 pub mod Preparing

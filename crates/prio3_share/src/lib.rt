@@ -4,6 +4,7 @@
 #![tactic(auto)]
 
 mod based;
+mod faults;
 mod halves;
 mod joint;
 mod keys;

@@ -8,6 +8,7 @@ ghost use Rattle.prio3_share.specs.Steps.{proof_halved, sharing_with};
 ghost use Rattle.prio3_share.specs.Seen.{seen};
 
 use crate::based::Based;
+use crate::faults::of_encode;
 use crate::halves::Halves;
 use crate::joint::joint_of;
 use crate::keys::SeedKeys;
@@ -16,7 +17,7 @@ use crate::splitting::{drawn, halves_of};
 use crate::spreading::keys_of;
 use crate::usage::Usage;
 use dap_bytes::{Bytes, Id};
-use flp_circuits::{Circuit, EncodeFault};
+use flp_circuits::Circuit;
 use flp_proof::prove;
 use std::alloc::{AllocError, Global};
 use vdaf_api::{ShardFault, Shares};
@@ -116,7 +117,6 @@ pub fn shard<C: Circuit>(
 {
     match c.encode(alloc, m) {
         Ok(x) => shard_input(alloc, c, kind, id, &x, seed),
-        Err(EncodeFault::BadValue) => Err(ShardFault::BadValue),
-        Err(EncodeFault::NoMemory) => Err(ShardFault::NoMemory),
+        Err(fault) => Err(of_encode(fault)),
     }
 }

@@ -7,10 +7,10 @@ ghost use Rattle.prio3_share.specs.Steps.{halved};
 ghost use Rattle.prio3_share.specs.Seen.{seen};
 
 use crate::based::Based;
+use crate::faults::of_draw;
 use crate::halves::Halves;
 use crate::streams::draw_for;
 use crate::usage::Usage;
-use aes_cmac_prg::DrawFault;
 use field_laws::Field;
 use std::alloc::{AllocError, Global};
 use vdaf_api::ShardFault;
@@ -39,11 +39,7 @@ pub(crate) fn drawn<F: Field>(
     ensures drawn { Splits (λ v. v.items) result (drawn_for ⟦<F as Based>⟧.base kind key.now usage [] n) }
     ensures size { IfOk result (λ v. length v.items ≡ n) }
 {
-    match draw_for(alloc, kind, key, usage, &[], n) {
-        Ok(elements) => Ok(elements),
-        Err(DrawFault::Spent) => Err(ShardFault::Spent),
-        Err(DrawFault::NoMemory) => Err(ShardFault::NoMemory),
-    }
+    draw_for(alloc, kind, key, usage, &[], n).map_err(of_draw)
 }
 
 /// A vector in two halves: the helper's is drawn from the stream of a key for a use, and the leader's is what that

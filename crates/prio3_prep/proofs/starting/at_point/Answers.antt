@@ -9,7 +9,7 @@ use Rattle.prio3_share.proofs.Fields.{base}
 use Rattle.prio3_prep.specs.States.{bytes_in}
 use Rattle.prio3_prep.specs.Parts.{begun}
 use Rattle.prio3_prep.proofs.Points.{root-false, root-true}
-use Rattle.prio3_prep.proofs.Answering.{started-same}
+use Rattle.prio3_prep.proofs.Answering.{faults-queried, started-same}
 use Rattle.prio3_prep.proofs.starting.at_point.Goals as goal
 
 pub returns-in_err-point : goal.returns-in_err-point
@@ -37,10 +37,11 @@ returns-in-Ok g c =
     (sym (made.ensures.out ∙ ap (λ x. bytes_of b (shape.truncate x)) c.deref-in-Ok.ensures.value))
     (sym (ap bytes_in made.ensures.seed)))
 
-pub returns-in-Err-Root : goal.returns-in-Err-Root
+pub returns : goal.returns
 unfolding begun point_of
-returns-in-Err-Root g c =
+returns g c =
     let nought = g.C.F.Field.ring.nought in
     let t = c.index.result.now in
     let at : slice_index_or c.in_ok-point.point.items 0 nought ≡ t = sym (c.index.ensures ∙ get_or_default c.in_ok-point.point.items 0 t nought (omega (arith, c.in_ok-point.ensures.size))) in
-    rw (c.in_ok-point.ensures.drawn, at, root-true (base g.C.F.Field) (g.C.Circuit.shape c.args.c.now) c.args.kind t (c.in-Err-Root.ensures.root.0 (ap Err c.in-Err-Root.field-0-is)))
+    rw c.of_query.ensures (faults-queried c.in-Err.fault _ (λ is.
+    rw (c.in_ok-point.ensures.drawn, at, root-true (base g.C.F.Field) (g.C.Circuit.shape c.args.c.now) c.args.kind t (c.in-Err.ensures.root.0 (ap Err is)))))
