@@ -1,8 +1,9 @@
 //! Reports that are offered.
 
-ghost use Rattle.std.specs.Prelude.{◌≡◌, ◌+◌, ◌<◌, ◌≤◌, ◌^◌, [], ◌∷◌, Some, IsTrue, IfOk, IfSome, length};
+ghost use Rattle.std.specs.Prelude.{◌≡◌, ◌⊎◌, ◌+◌, ◌<◌, ◌≤◌, ◌^◌, [], ◌∷◌, Some, None, Ok, IsTrue, IfOk, IfSome, OnOk, length};
 ghost use Rattle.std.specs.Option.{option_to_list};
 ghost use Rattle.dap_bytes.specs.Name.{IsName};
+ghost use Rattle.vdaf_api.specs.declared.fault.ShardFault.TheVariants as shard;
 ghost use Rattle.dap_messages.specs.Messages.{report};
 ghost use Rattle.dap_seal.specs.Reports.{honest_report};
 ghost use Rattle.dap_model.specs.Step.{name_in, report_in};
@@ -64,6 +65,18 @@ fn report_in(alloc: Global, bytes: &[u8]) -> Result<Option<Report>, AllocError>
     }
 }
 
+/// What a refusal to make a report comes to: there is none, unless it was for want of memory, which goes on.
+fn none_after(fault: ShardFault) -> Result<Option<Vec<u8>>, AllocError>
+    ensures none { (fault ≡ shard.NoMemory) ⊎ (result ≡ Ok None) }
+    ensures memory { fault ≡ shard.NoMemory → OnOk result ⊥ }
+{
+    match fault {
+        ShardFault::BadValue => Ok(None),
+        ShardFault::Spent => Ok(None),
+        ShardFault::NoMemory => Err(AllocError),
+    }
+}
+
 /// The bytes of the report that an honest client makes of a measurement, if it has shares.
 pub fn honest_bytes<V: Vdaf>(
     alloc: Global,
@@ -85,9 +98,7 @@ pub fn honest_bytes<V: Vdaf>(
         &given.seed,
     ) {
         Ok(bytes) => Ok(Some(bytes)),
-        Err(ShardFault::BadValue) => Ok(None),
-        Err(ShardFault::Spent) => Ok(None),
-        Err(ShardFault::NoMemory) => Err(AllocError),
+        Err(fault) => none_after(fault),
     }
 }
 

@@ -1,9 +1,11 @@
 //! Both halves of a report, opened and prepared together.
 
-ghost use Rattle.std.specs.Prelude.{◌≡◌, IfOk};
+ghost use Rattle.std.specs.Prelude.{◌≡◌, ◌⊎◌, None, Ok, IfOk, OnOk};
 ghost use Rattle.vdaf_api.specs.Answered.{Prepares as Gives};
+ghost use Rattle.vdaf_api.specs.declared.fault.PrepFault.TheVariants as prep;
 ghost use Rattle.dap_seal.specs.Reports.{content_numbers_of, head_of, verdict_of};
 ghost use Rattle.dap_seal.specs.Sealed.{opened_by};
+ghost use Rattle.dap_seal.specs.declared.seal.OpenFault.TheVariants as opening;
 ghost use Rattle.dap_direct.specs.Sums.{AreOutShares, content_with};
 
 use dap_messages::Report;
@@ -31,6 +33,17 @@ fn head_of(report: &Report) -> Result<Head, AllocError>
     })
 }
 
+/// What sealed bytes that don't open are to a preparation: an invalid report, unless it was for want of memory.
+fn of_open(fault: OpenFault) -> PrepFault
+    ensures tag { fault ≡ opening.Tag → result ≡ prep.Invalid }
+    ensures memory { fault ≡ opening.NoMemory → result ≡ prep.NoMemory }
+{
+    match fault {
+        OpenFault::Tag => PrepFault::Invalid,
+        OpenFault::NoMemory => PrepFault::NoMemory,
+    }
+}
+
 /// The share that sealed bytes hold for an aggregator. `Invalid` exactly where they don't open.
 fn open(
     alloc: Global,
@@ -43,8 +56,7 @@ fn open(
 {
     match CmacSeal::new(keys, role).open(alloc, head, sealed) {
         Ok(plain) => Ok(plain),
-        Err(OpenFault::Tag) => Err(PrepFault::Invalid),
-        Err(OpenFault::NoMemory) => Err(PrepFault::NoMemory),
+        Err(fault) => Err(of_open(fault)),
     }
 }
 
@@ -88,6 +100,17 @@ impl OutShares {
     }
 }
 
+/// What a refusal to prepare a report comes to: it has no out shares, unless it was for want of memory, which goes on.
+fn none_after(fault: PrepFault) -> Result<Option<OutShares>, AllocError>
+    ensures none { (fault ≡ prep.NoMemory) ⊎ (result ≡ Ok None) }
+    ensures memory { fault ≡ prep.NoMemory → OnOk result ⊥ }
+{
+    match fault {
+        PrepFault::Invalid => Ok(None),
+        PrepFault::NoMemory => Err(AllocError),
+    }
+}
+
 /// The out shares of a report under a task, or none where its verdict is failed.
 pub fn prepare<V: Vdaf>(
     alloc: Global,
@@ -100,7 +123,6 @@ pub fn prepare<V: Vdaf>(
 {
     match OutShares::of(alloc, vdaf, task, report) {
         Ok(outs) => Ok(Some(outs)),
-        Err(PrepFault::Invalid) => Ok(None),
-        Err(PrepFault::NoMemory) => Err(AllocError),
+        Err(fault) => none_after(fault),
     }
 }
