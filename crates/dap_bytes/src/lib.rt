@@ -1,11 +1,12 @@
 //! The small types that both servers' messages, records and scripts are made of: names and identifiers, byte
-//! strings and texts, the two nodes with their parts, numbers as big-endian bytes, and the cursor that reads them. The
-//! layers above see a name, a byte string and a text as the list of its bytes, write numbers with `put_u8` to `put_u64`,
-//! and read with a `Cursor`, which they see as an input and a place.
+//! strings and texts, the two nodes with their parts, numbers as big-endian bytes, the cursor that reads them, and the
+//! limits that all of them share. The layers above see a name, a byte string and a text as the list of its bytes, write
+//! numbers with `put_u8` to `put_u64`, and read with a `Cursor`, which they see as an input and a place.
 #![tactic(auto)]
 
 mod bytes;
 mod cursor;
+mod limits;
 mod name;
 mod node;
 mod numbers;
@@ -14,6 +15,7 @@ mod text;
 
 pub use bytes::Bytes;
 pub use cursor::Cursor;
+pub use limits::{GREATEST_MINIMUM, GREATEST_PRECISION, LATEST_TIME};
 pub use name::Name;
 pub use node::Node;
 pub use numbers::{put_u8, put_u16, put_u32, put_u64};

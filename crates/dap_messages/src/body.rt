@@ -2,9 +2,9 @@
 
 use crate::code::Code;
 use crate::fault::ReadFault;
-use crate::fields::{LATEST_TIME, cut_off, put_bytes, read_bytes, read_u64};
+use crate::fields::{cut_off, put_bytes, read_bytes, read_u64};
 use crate::spelled::Spelled;
-use dap_bytes::{Bytes, Cursor, put_u8, put_u64};
+use dap_bytes::{Bytes, Cursor, LATEST_TIME, put_u8, put_u64};
 use std::alloc::{AllocError, Global};
 
 /// The most bytes of a public share.

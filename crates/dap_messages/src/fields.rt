@@ -11,9 +11,6 @@ use crate::fault::{Form, ReadFault};
 use dap_bytes::{Bytes, Cursor, Name, put_u8, put_u32};
 use std::alloc::{AllocError, Global};
 
-/// The latest time, and the latest start of a batch, in units of time.
-pub const LATEST_TIME: u64 = 999_999_999_999_999_999;
-
 /// The fault of a field whose bytes run out. The cursor goes to the input's end.
 pub fn cut_off(cursor: &mut Cursor<'_>) -> Form
     ensures { result.at ≡ length cursor.old.input }

@@ -7,14 +7,12 @@ ghost use Rattle.dap_messages.specs.Messages.{init_req, init_resp, cont_req, con
 
 use crate::body::{Half, Status, Step};
 use crate::fault::ReadFault;
-use crate::fields::{
-    LATEST_TIME, cut_off, put_name, put_slice, read_array, read_name, read_u32, read_u64,
-};
+use crate::fields::{cut_off, put_name, put_slice, read_array, read_name, read_u32, read_u64};
 use crate::item::Items;
 use crate::job::JobNo;
 use crate::reply::Reply;
 use crate::spelled::Spelled;
-use dap_bytes::{Cursor, Name, put_u8, put_u32, put_u64};
+use dap_bytes::{Cursor, LATEST_TIME, Name, put_u8, put_u32, put_u64};
 use std::alloc::{AllocError, Global};
 
 /// A message between the two aggregators (draft-ietf-ppm-dap-02, sections 4.4 and 4.5, in this project's own bytes).

@@ -2,11 +2,9 @@
 
 use crate::body::{MOST_HELPER, MOST_PUBLIC};
 use crate::fault::ReadFault;
-use crate::fields::{
-    LATEST_TIME, put_bytes, put_name, read_array, read_bytes, read_name, read_u16, read_u64,
-};
+use crate::fields::{put_bytes, put_name, read_array, read_bytes, read_name, read_u16, read_u64};
 use crate::spelled::Spelled;
-use dap_bytes::{Bytes, Cursor, Id, Name, put_u16, put_u64};
+use dap_bytes::{Bytes, Cursor, Id, LATEST_TIME, Name, put_u16, put_u64};
 use std::alloc::{AllocError, Global};
 
 /// The most bytes of the leader's sealed input share.

@@ -7,7 +7,7 @@ ghost use Rattle.dap_script.specs.Words.{texts, is_line_char, is_space};
 
 use crate::fields::{bounded, node, octets, report, small};
 use crate::kind::kind;
-use dap_bytes::{Bytes, Id, Name, Node};
+use dap_bytes::{Bytes, GREATEST_MINIMUM, GREATEST_PRECISION, Id, LATEST_TIME, Name, Node};
 use std::alloc::{AllocError, Global};
 use vdaf_api::Kind;
 
@@ -52,15 +52,6 @@ pub enum Line {
     },
 }
 
-/// The greatest time.
-const MAX_TIME: u64 = 999_999_999_999_999_999;
-
-/// The greatest least number of reports in a collected batch.
-const MAX_MIN: u32 = 1_000_000;
-
-/// The greatest length of a batch.
-const MAX_PRECISION: u32 = 1_000_000_000;
-
 impl Line {
     ghost use Rattle.dap_script.specs.Line.{line_of, line_of_words, task_with, task_of, now_of, measure_of, upload_of, collect_of, restart_of};
 
@@ -70,8 +61,8 @@ impl Line {
         Some(Line::Task {
             name: Name::new(name.as_bytes())?,
             kind,
-            min: small(min, MAX_MIN)?,
-            precision: small(precision, MAX_PRECISION)?,
+            min: small(min, GREATEST_MINIMUM)?,
+            precision: small(precision, GREATEST_PRECISION)?,
         })
     }
 
@@ -96,7 +87,7 @@ impl Line {
             return None;
         };
         Some(Line::Now {
-            t: bounded(t, 0, MAX_TIME)?,
+            t: bounded(t, 0, LATEST_TIME)?,
         })
     }
 
@@ -110,7 +101,7 @@ impl Line {
         Some(Line::Measure {
             name: Name::new(name.as_bytes())?,
             id: octets(id)?,
-            time: bounded(time, 0, MAX_TIME)?,
+            time: bounded(time, 0, LATEST_TIME)?,
             value: bounded(value, 0, u64::MAX)?,
             seed: octets(seed)?,
         })
@@ -138,7 +129,7 @@ impl Line {
         };
         Some(Line::Collect {
             name: Name::new(name.as_bytes())?,
-            start: bounded(start, 0, MAX_TIME)?,
+            start: bounded(start, 0, LATEST_TIME)?,
         })
     }
 

@@ -12,6 +12,7 @@ ghost use Rattle.dap_tasks.specs.Task.{IsTask, has_name};
 
 use crate::fields::{histogram_at, keys_at, new_name_at, number_at, octets_at, word_at};
 use crate::task::Task;
+use dap_bytes::{GREATEST_MINIMUM, GREATEST_PRECISION};
 use std::alloc::{AllocError, Global};
 use toml::Table;
 use vdaf_api::Kind;
@@ -34,12 +35,6 @@ impl<'a> From<AllocError> for TableFault<'a> {
         TableFault::NoMemory
     }
 }
-
-/// The greatest least number of reports in a collected batch.
-const MAX_MIN: u32 = 1_000_000;
-
-/// The greatest length of a batch.
-const MAX_PRECISION: u32 = 1_000_000_000;
 
 /// The kind that a word names, with what the table has for it.
 fn kind_named<'a>(alloc: Global, word: &str, table: &'a Table) -> Result<Kind, TableFault<'a>>
@@ -98,8 +93,8 @@ pub fn task<'a>(alloc: Global, before: &[Task], table: &'a Table) -> Result<Task
 {
     let name = new_name_at(before, table, "name").ok_or(TableFault::Refused("name"))?;
     let kind = kind(alloc, table)?;
-    let min = number_at(table, "min", MAX_MIN).ok_or(TableFault::Refused("min"))?;
-    let precision = number_at(table, "precision", MAX_PRECISION).ok_or(TableFault::Refused(
+    let min = number_at(table, "min", GREATEST_MINIMUM).ok_or(TableFault::Refused("min"))?;
+    let precision = number_at(table, "precision", GREATEST_PRECISION).ok_or(TableFault::Refused(
         "precision",
     ))?;
     let verify = octets_at(table, "verify").ok_or(TableFault::Refused("verify"))?;

@@ -4,8 +4,7 @@ ghost use Rattle.std.specs.Prelude.{◌≡◌, None};
 ghost use Rattle.std.specs.Int.{w32, w64};
 ghost use Rattle.dap_messages.specs.Grammar.{byte, number, cells, any_text, bytes, name, is_above, allowed_items};
 
-use dap_bytes::{Bytes, Id, Name};
-use dap_messages::fields::LATEST_TIME;
+use dap_bytes::{Bytes, Id, LATEST_TIME, Name};
 use dap_messages::{
     Half, Items, JobNo, MOST_HELPER, MOST_LEADER, MOST_OUT, MOST_PREP, MOST_PUBLIC, Reply, Report,
     Spelled, Step, Tagged,

@@ -1,10 +1,9 @@
 //! What a front's record of an answer holds.
 
 use crate::allowed::{Tested, are_bytes, is_array, is_name, is_u32, is_u64};
-use dap_bytes::{Bytes, Cursor, Name, put_u8, put_u32, put_u64};
+use dap_bytes::{Bytes, Cursor, LATEST_TIME, Name, put_u8, put_u32, put_u64};
 use dap_messages::fields::{
-    LATEST_TIME, put_bytes, put_name, put_slice, read_array, read_bytes, read_name, read_u8,
-    read_u32, read_u64,
+    put_bytes, put_name, put_slice, read_array, read_bytes, read_name, read_u8, read_u32, read_u64,
 };
 use dap_messages::{MOST_OUT, ReadFault, Reply, Spelled};
 use std::alloc::{AllocError, Global};

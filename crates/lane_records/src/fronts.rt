@@ -7,8 +7,8 @@ ghost use Rattle.lane_records.specs.Records.{front_open, answer_fields, leader_f
 use crate::batch::{Answered, Request, Response};
 use crate::record::Record;
 use crate::stored::StoredTask;
-use dap_bytes::{Cursor, Name, put_u8, put_u64};
-use dap_messages::fields::{LATEST_TIME, put_name, read_name, read_u8, read_u64};
+use dap_bytes::{Cursor, LATEST_TIME, Name, put_u8, put_u64};
+use dap_messages::fields::{put_name, read_name, read_u8, read_u64};
 use dap_messages::{Form, ReadFault, Spelled};
 use std::alloc::{AllocError, Global};
 

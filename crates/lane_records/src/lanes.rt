@@ -7,8 +7,8 @@ ghost use Rattle.lane_records.specs.Records.{lane_open, continue_fields, start_f
 use crate::closed::Closed;
 use crate::outcome::Outcome;
 use crate::record::Record;
-use dap_bytes::{Cursor, Name, put_u8, put_u64};
-use dap_messages::fields::{LATEST_TIME, put_name, read_name, read_u8, read_u64};
+use dap_bytes::{Cursor, LATEST_TIME, Name, put_u8, put_u64};
+use dap_messages::fields::{put_name, read_name, read_u8, read_u64};
 use dap_messages::{Form, Half, Items, JobNo, ReadFault, Report, Spelled, Step};
 use std::alloc::{AllocError, Global};
 

@@ -17,8 +17,8 @@ use crate::lanes::{
 };
 use crate::outcome::Outcome;
 use crate::stored::StoredTask;
-use dap_bytes::{Cursor, Name, put_u8, put_u64};
-use dap_messages::fields::{LATEST_TIME, cut_off, put_name};
+use dap_bytes::{Cursor, LATEST_TIME, Name, put_u8, put_u64};
+use dap_messages::fields::{cut_off, put_name};
 use dap_messages::{Half, Items, JobNo, ReadFault, Report, Spelled, Step};
 use std::alloc::{AllocError, Global};
 

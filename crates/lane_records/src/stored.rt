@@ -6,7 +6,7 @@ ghost use Rattle.lane_records.specs.Stored.{kind, keys};
 
 use crate::allowed::{Tested, is_array, is_name, is_u8, is_u32};
 use crate::bounds::{are_bounds, put_bounds, read_bounds};
-use dap_bytes::{Cursor, Name, put_u8, put_u32};
+use dap_bytes::{Cursor, GREATEST_MINIMUM, GREATEST_PRECISION, Name, put_u8, put_u32};
 use dap_messages::fields::{
     cut_off, put_name, put_slice, read_array, read_name, read_u8, read_u32,
 };
@@ -38,8 +38,8 @@ impl Spelled for StoredTask {
     fn read(alloc: Global, cursor: &mut Cursor<'_>) -> Result<Self, ReadFault> {
         let name = read_name(cursor)?;
         let kind = read_kind(alloc, cursor)?;
-        let min = read_u32(cursor, 1, 1_000_000)?;
-        let precision = read_u32(cursor, 1, 1_000_000_000)?;
+        let min = read_u32(cursor, 1, GREATEST_MINIMUM)?;
+        let precision = read_u32(cursor, 1, GREATEST_PRECISION)?;
         let verify = read_array(cursor)?;
         let keys = read_keys(cursor)?;
         Ok(StoredTask {
@@ -117,8 +117,8 @@ impl Tested for StoredTask {
     fn is_allowed(&self) -> bool {
         is_name(&self.name)
             && is_kind(&self.kind)
-            && is_u32(self.min, 1, 1_000_000)
-            && is_u32(self.precision, 1, 1_000_000_000)
+            && is_u32(self.min, 1, GREATEST_MINIMUM)
+            && is_u32(self.precision, 1, GREATEST_PRECISION)
             && is_array(&self.verify)
             && are_keys(&self.keys)
     }
