@@ -1,15 +1,11 @@
 -- What a link's fates count and carry.
-use Rattle.std.specs.Prelude.{ℕ, ◌+◌, ◌-◌, ◌^◌, ◌≤◌, min, max, List, [], ◌∷◌, ◌++◌, Option, Some, None}
+use Rattle.std.specs.Prelude.{ℕ, ◌+◌, ◌-◌, ◌^◌, min, max, List, [], ◌∷◌, ◌++◌, Option, Some, None}
 use Rattle.dap_outside.specs.declared.fates.Fate.{Fate}
 use Rattle.dap_outside.specs.declared.fates.Fate.TheVariants.{Deliver, Drop, Twice, Hold}
 
 -- a count after one more, which stands still at its type's end
 abbrev pub counted : ℕ → ℕ
 counted n = max n (min (n + 1) (2 ^ 64 - 1))
-
--- a count rose by n or more, or stands at its end
-abbrev pub RoseBy : ℕ → ℕ → ℕ → Type 0
-RoseBy n before now = min (before + n) (2 ^ 64 - 1) ≤ now
 
 -- the number of Drops after a fate
 abbrev pub drops_after : Fate → ℕ → ℕ

@@ -2,9 +2,10 @@
 use Rattle.std.proofs.Common.{◌≡◌, ℕ, ◌≤◌, List, [], ◌∷◌, ◌++◌, Contains, Option, Result, Ok, IfOk, subst, sym, ap, ◌∙◌, arith, inl, inr}
 use Rattle.std.proofs.lemmas.List.Elements.{Contains-append_left, Contains-append_right, Contains-append_cases, Contains-push}
 use Rattle.std.specs.declared.alloc.AllocError.{AllocError}
+use Rattle.dap_bytes.specs.Causes.{RoseBy}
 use Rattle.dap_outside.specs.declared.fates.Fate.{Fate}
 use Rattle.dap_outside.specs.declared.fates.Fate.TheVariants.{Deliver, Drop, Twice, Hold}
-use Rattle.dap_outside.specs.Fates.{RoseBy, drops_after, row_after, carried_after}
+use Rattle.dap_outside.specs.Fates.{drops_after, row_after, carried_after}
 use Rattle.dap_wire.specs.declared.recv.Recv.{Recv}
 use Rattle.dap_wire.specs.declared.recv.Recv.TheVariants.{Message, Held, Dropped, Empty}
 use Rattle.dap_wire.specs.Fated.{IsFated, answer_of, kept_of, Releases}

@@ -2,7 +2,7 @@
 use Rattle.std.specs.Prelude.{◌≡◌, ℕ, ◌≤◌, List, [], ◌++◌, Contains, Option, Some, None, refl}
 use Rattle.std.specs.Coded.{Coded, code_by, coded×, coded_ℕ, coded_list}
 use mathlib.Core.List.{IsPrefix}
-use Rattle.dap_outside.specs.Fates.{RoseBy}
+use Rattle.dap_bytes.specs.Causes.{RoseBy}
 use Rattle.dap_wire.specs.Ring.{Ring, ring_code}
 
 -- an end as callers see it: `sent` and `received` are whole histories, `room` and `waiting` what it knows of its rings,

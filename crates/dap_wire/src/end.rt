@@ -3,7 +3,7 @@
 ghost use Rattle.std.specs.Prelude.{◌≡◌, ◌<◌, ◌≤◌, ◌+◌, ◌⊎◌, [], ◌∷◌, ◌++◌, IfOk, IfErr, IsOk, OnOk, Ok, Contains, ℕ, List};
 ghost use mathlib.Core.List.{IsPrefix};
 ghost use Rattle.rtrb.specs.Ring.{sent, received, known_free, known_items, producer_capacity};
-ghost use Rattle.dap_outside.specs.Fates.{RoseBy};
+ghost use Rattle.dap_bytes.specs.Causes.{RoseBy};
 ghost use Rattle.dap_wire.specs.Ring.{out_ring, in_ring};
 ghost use Rattle.dap_wire.specs.Link.{IsLink, IsNew, IsCarried};
 ghost use Rattle.dap_wire.specs.Calls.{Sends, Receives, Outcome};

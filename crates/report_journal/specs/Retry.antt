@@ -7,10 +7,6 @@ use Rattle.dap_disk.specs.Runs.{then, weaker}
 use Rattle.report_journal.specs.Journal.{Stands}
 use Rattle.report_journal.specs.Log.{contents}
 
--- a count rose by n, or stands at its end
-abbrev pub RoseBy : ℕ → ℕ → ℕ → Type 0
-RoseBy n before now = min (before + n) (2 ^ 64 - 1) ≤ now
-
 -- the file stands for the records, without the block or with it
 abbrev pub WithOrWithout : List (List ℕ) → List (List ℕ) → List ℕ → Type 0
 WithOrWithout records block file = Stands records file ⊎ Stands (records ++ block) file

@@ -1,10 +1,10 @@
 //! A journal that goes on through stops.
 ghost use Rattle.std.specs.Prelude.{◌≡◌, ◌⊎◌, ◌≤◌, ◌<◌, ◌+◌, ◌-◌, ◌++◌, [], List, ℕ, length, IfOk, OnOk, OnErr, IsErrOf, IsTrue, false};
-ghost use Rattle.dap_bytes.specs.Causes.{Rose};
+ghost use Rattle.dap_bytes.specs.Causes.{Rose, RoseBy};
 ghost use Rattle.dap_disk.specs.Disk.{Tells, LeavesOnly};
 ghost use Rattle.report_journal.specs.Journal.{Stands};
 ghost use Rattle.report_journal.specs.Log.{Leaves};
-ghost use Rattle.report_journal.specs.Retry.{RoseBy, WithOrWithout};
+ghost use Rattle.report_journal.specs.Retry.{WithOrWithout};
 
 use crate::{Log, RestartFault};
 use dap_disk::Disk;

@@ -1,6 +1,7 @@
 use Rattle.std.proofs.Common.{◌≡◌, ◌≤◌, ◌<◌, ◌+◌, ◌-◌}
+use Rattle.dap_bytes.specs.Causes.{RoseBy}
 use Rattle.dap_disk.specs.Disk.{LeavesOnly}
-use Rattle.report_journal.specs.Retry.{RoseBy, WithOrWithout}
+use Rattle.report_journal.specs.Retry.{WithOrWithout}
 use Rattle.report_journal.proofs.log.Log.restart_through.Given as goal
 
 abbrev pub invariant-tries : goal.invariant-tries
