@@ -12,6 +12,7 @@ use Rattle.std.specs.Fmt.{decimal}
 use Rattle.std.specs.List.{All, join_with_byte, list_all, slice_split}
 use Rattle.std.specs.Str.{bytes_eq}
 use Rattle.base64.specs.GeneralPurpose.{IsBytes}
+use Rattle.dap_bytes.specs.Shown.{node_word}
 use Rattle.dap_bytes.specs.Name.{name_of}
 use Rattle.dap_bytes.specs.declared.node.Node.TheVariants.{Helper, Leader}
 use Rattle.dap_bytes.specs.declared.node.Node.{Node}
@@ -26,7 +27,7 @@ use Rattle.dap_script.proofs.Visible.{IsVisible, is_visible, visible_decimal, vi
 use Rattle.dap_script.proofs.WordLaws.{All-slice_split, cut_fields, last_field, listed, middle_fields, name_of-itself, name_spelled, second_last_field}
 use Rattle.dap_script.specs.Fields.{◌>>=◌, bounded_of, kind_of, node_of, octets_of, report_of}
 use Rattle.dap_script.specs.Line.{collect_of, is_blank, kind_fields, line_of, line_of_words, measure_of, now_of, restart_of, task_of, task_with, upload_of}
-use Rattle.dap_script.specs.Spelling.{IsInRange, SpellsLine, kind_words, node_word, spelling, words_of}
+use Rattle.dap_script.specs.Spelling.{IsInRange, SpellsLine, kind_words, spelling, words_of}
 use Rattle.dap_script.specs.Words.{is_line_char, is_space, word}
 use Rattle.dap_script.specs.declared.line.Line.TheVariants.{Blank, Collect, Measure, Now, Restart, Task, Upload}
 use Rattle.dap_script.specs.declared.line.Line.{Line}

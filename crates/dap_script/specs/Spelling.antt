@@ -7,8 +7,7 @@ use Rattle.base64.specs.Engines.{standard}
 use Rattle.base64.specs.GeneralPurpose.{encode_of}
 use Rattle.hex.specs.Hex.{encode_lower}
 use Rattle.dap_bytes.specs.Name.{IsName}
-use Rattle.dap_bytes.specs.declared.node.Node.{Node}
-use Rattle.dap_bytes.specs.declared.node.Node.TheVariants.{Leader, Helper}
+use Rattle.dap_bytes.specs.Shown.{node_word}
 use Rattle.vdaf_api.specs.Kind.{IsKind}
 use Rattle.vdaf_api.specs.declared.kind.Kind.{Kind}
 use Rattle.vdaf_api.specs.declared.kind.Kind.TheVariants.{Count, Sum, Histogram}
@@ -22,11 +21,6 @@ abbrev pub kind_words : Kind → List (List ℕ)
 kind_words Count = codes "count" ∷ []
 kind_words (Sum bits) = codes "sum" ∷ decimal bits ∷ []
 kind_words (Histogram bounds) = codes "histogram" ∷ join_with_byte 44 (map decimal bounds) ∷ []
-
--- the word that names a node
-abbrev pub node_word : Node → List ℕ
-node_word Leader = codes "leader"
-node_word Helper = codes "helper"
 
 -- the words that spell a line; a blank one has none
 abbrev pub words_of : Line → List (List ℕ)
