@@ -6,14 +6,9 @@ use Rattle.aes_cmac_prg.specs.Cmac.{cmac}
 use Rattle.aes_cmac_prg.specs.Stream.{stream}
 use Rattle.dap_batch.specs.Checksum.{xor_bytes}
 use Rattle.dap_tasks.specs.declared.keys.SealKeys.{SealKeys}
+use Rattle.vdaf_api.specs.Role.{role_byte}
 use Rattle.vdaf_api.specs.declared.role.Role.{Role}
-use Rattle.vdaf_api.specs.declared.role.Role.TheVariants.{Leader, Helper}
 use Rattle.dap_seal.specs.declared.head.Head.{Head}
-
--- the byte of an aggregator
-abbrev pub role_byte : Role → ℕ
-role_byte Leader = 0
-role_byte Helper = 1
 
 -- what tells a stream from the others of its key
 abbrev pub cipher_info : Role → List ℕ → List ℕ

@@ -5,7 +5,6 @@ ghost use Rattle.aes_cmac_prg.specs.Stream.{stream};
 ghost use Rattle.dap_batch.specs.Checksum.{xor_bytes};
 ghost use Rattle.dap_seal.specs.Sealed.{cipher_info, covered_by};
 
-use crate::tag::role_byte;
 use aes_cmac_prg::Prg;
 use dap_bytes::{Id, put_u8};
 use dap_tasks::SealKeys;
@@ -33,7 +32,7 @@ fn info_text(alloc: Global, role: Role, id: &Id) -> Result<Vec<u8>, AllocError>
 {
     let mut info = Vec::new(alloc);
     info.extend_from_slice(b"dap seal")?;
-    put_u8(&mut info, role_byte(role))?;
+    put_u8(&mut info, role.byte())?;
     info.extend_from_slice(id)?;
     Ok(info)
 }

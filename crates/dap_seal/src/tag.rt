@@ -1,7 +1,7 @@
 //! The tag of a seal.
 
 ghost use Rattle.std.specs.Prelude.{◌≡◌, IfOk};
-ghost use Rattle.dap_seal.specs.Sealed.{role_byte, tag_by, tag_text};
+ghost use Rattle.dap_seal.specs.Sealed.{tag_by, tag_text};
 
 use crate::head::Head;
 use aes_block::Key;
@@ -34,7 +34,7 @@ fn text_of(alloc: Global, role: Role, head: &Head, ciphertext: &[u8]) -> Result<
     ensures { IfOk result (λ v. v.items ≡ tag_text role head.now ciphertext.now) }
 {
     let mut text = Vec::new(alloc);
-    put_u8(&mut text, role_byte(role))?;
+    put_u8(&mut text, role.byte())?;
     put_name(&mut text, &head.name)?;
     text.extend_from_slice(&head.id)?;
     put_u64(&mut text, head.time)?;
@@ -42,14 +42,4 @@ fn text_of(alloc: Global, role: Role, head: &Head, ciphertext: &[u8]) -> Result<
     text.extend_from_slice(head.public.as_slice())?;
     text.extend_from_slice(ciphertext)?;
     Ok(text)
-}
-
-/// The byte of an aggregator.
-pub fn role_byte(role: Role) -> u8
-    ensures { result ≡ role_byte role }
-{
-    match role {
-        Role::Leader => 0,
-        Role::Helper => 1,
-    }
 }

@@ -18,10 +18,11 @@ use Rattle.aes_cmac_prg.specs.Fault.{Draws}
 use Rattle.aes_cmac_prg.specs.declared.fault.DrawFault.{DrawFault}
 use Rattle.aes_cmac_prg.proofs.Drawing.{length-drawn, length-drawn_at, drawn-none}
 use Rattle.vdaf_api.specs.declared.role.Role.{Role}
+use Rattle.vdaf_api.specs.Role.{role_byte}
 use Rattle.prio3_share.specs.Base.{Base, BaseLaws}
 use Rattle.prio3_share.specs.declared.usage.Usage.{Usage}
 use Rattle.prio3_share.specs.declared.usage.Usage.TheVariants.{Keys, Part, JointRandomness}
-use Rattle.prio3_share.specs.Texts.{role_byte, info, bytes_for, drawn_for, bytes_of, key, part, joint_seed}
+use Rattle.prio3_share.specs.Texts.{info, bytes_for, drawn_for, bytes_of, key, part, joint_seed}
 use Rattle.prio3_share.specs.Sharing.{has_joint, if_joint, joint_bytes, joint_randomness, whole_proof}
 
 pub length-stream : (seed rest : List ℕ) (n : ℕ) → length (stream seed rest n) ≡ n

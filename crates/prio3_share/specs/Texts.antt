@@ -3,7 +3,7 @@ use Rattle.std.specs.Prelude.{ℕ, ◌*◌, List, [], ◌∷◌, ◌++◌, map, 
 use Rattle.aes_cmac_prg.specs.Stream.{stream}
 use Rattle.aes_cmac_prg.specs.Drawn.{drawn}
 use Rattle.vdaf_api.specs.declared.role.Role.{Role}
-use Rattle.vdaf_api.specs.declared.role.Role.TheVariants.{Leader, Helper}
+use Rattle.vdaf_api.specs.Role.{role_byte}
 use Rattle.vdaf_api.specs.Vectors.{spelled}
 use Rattle.prio3_share.specs.Base.{Base}
 use Rattle.prio3_share.specs.declared.usage.Usage.{Usage}
@@ -19,11 +19,6 @@ usage_byte JointRandomness = 4
 usage_byte WireSeeds = 5
 usage_byte HelperProof = 6
 usage_byte QueryPoint = 7
-
--- the byte that names a role
-abbrev pub role_byte : Role → ℕ
-role_byte Leader = 0
-role_byte Helper = 1
 
 -- the info text of a use: `dap prio3`, the kind, the use, and what the use adds
 abbrev pub info : ℕ → Usage → List ℕ → List ℕ

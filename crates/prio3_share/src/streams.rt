@@ -5,7 +5,7 @@ ghost use Rattle.aes_cmac_prg.specs.Fault.{Draws};
 ghost use Rattle.prio3_share.specs.Texts.{bytes_for, drawn_for, info, joint_seed, part};
 
 use crate::based::Based;
-use crate::texts::{info_text, push_elements, role_number};
+use crate::texts::{info_text, push_elements};
 use crate::usage::Usage;
 use aes_cmac_prg::{DrawFault, Prg};
 use dap_bytes::Id;
@@ -72,7 +72,7 @@ pub fn part_of<F: Field>(
     ensures { IfOk result (λ own. own ≡ part ⟦<F as Based>⟧.base kind role id.now blind.now x.now) }
 {
     let mut rest = Vec::new(alloc);
-    rest.push(role_number(role))?;
+    rest.push(role.byte())?;
     rest.extend_from_slice(id)?;
     push_elements(&mut rest, x)?;
     block_for(alloc, kind, blind, Usage::Part, &rest)

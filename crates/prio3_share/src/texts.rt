@@ -1,12 +1,11 @@
 //! Info texts, and elements as bytes.
 ghost use Rattle.std.specs.Prelude.{◌≡◌, ◌++◌, IfOk, OnOk};
-ghost use Rattle.prio3_share.specs.Texts.{bytes_of, info, role_byte, usage_byte};
+ghost use Rattle.prio3_share.specs.Texts.{bytes_of, info, usage_byte};
 
 use crate::based::Based;
 use crate::usage::Usage;
 use field_laws::Field;
 use std::alloc::{AllocError, Global};
-use vdaf_api::Role;
 
 fn usage_number(usage: Usage) -> u8
     ensures { result ≡ usage_byte usage }
@@ -20,16 +19,6 @@ fn usage_number(usage: Usage) -> u8
         Usage::WireSeeds => 5,
         Usage::HelperProof => 6,
         Usage::QueryPoint => 7,
-    }
-}
-
-/// The byte that names a role.
-pub(crate) fn role_number(role: Role) -> u8
-    ensures { result ≡ role_byte role }
-{
-    match role {
-        Role::Leader => 0,
-        Role::Helper => 1,
     }
 }
 

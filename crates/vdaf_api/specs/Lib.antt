@@ -1,4 +1,5 @@
 pub mod Kind
+pub mod Role
 pub mod Vectors
 pub mod Spelled
 pub mod Sums
