@@ -23,7 +23,7 @@ pub enum ReadFault {
     #[error("not of the form at byte {at}")]
     Form { at: usize },
     /// There was no memory for the value.
-    #[error("out of memory")]
+    #[error("no memory")]
     NoMemory,
 }
 

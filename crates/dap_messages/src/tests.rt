@@ -78,7 +78,7 @@ fn fault_of(alloc: Global, bytes: &[u8]) -> Result<Option<usize>, Fail> {
     match read_message(alloc, bytes) {
         Ok(_message) => Ok(None),
         Err(ReadFault::Form { at }) => Ok(Some(at)),
-        Err(ReadFault::NoMemory) => Err("out of memory".into()),
+        Err(ReadFault::NoMemory) => Err("no memory".into()),
     }
 }
 
@@ -86,7 +86,7 @@ fn report_fault_of(alloc: Global, bytes: &[u8]) -> Result<Option<usize>, Fail> {
     match read_report(alloc, bytes) {
         Ok(_report) => Ok(None),
         Err(ReadFault::Form { at }) => Ok(Some(at)),
-        Err(ReadFault::NoMemory) => Err("out of memory".into()),
+        Err(ReadFault::NoMemory) => Err("no memory".into()),
     }
 }
 

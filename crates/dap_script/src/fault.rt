@@ -13,7 +13,7 @@ pub enum ScriptFault {
     #[error("line {line} is refused")]
     Refused { line: u32 },
     /// There was no memory to read it.
-    #[error("out of memory")]
+    #[error("no memory")]
     NoMemory,
 }
 

@@ -15,7 +15,7 @@ pub enum TasksFault {
     #[error("task {task} field {field}")]
     Refused { task: u32, field: Text },
     /// There was no memory to read it.
-    #[error("out of memory")]
+    #[error("no memory")]
     NoMemory,
 }
 

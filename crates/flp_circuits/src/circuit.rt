@@ -14,7 +14,7 @@ pub enum EncodeFault {
     #[error("the value is not of the kind")]
     BadValue,
     /// There was no memory for it.
-    #[error("out of memory")]
+    #[error("no memory")]
     NoMemory,
 }
 

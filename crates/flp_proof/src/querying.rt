@@ -21,7 +21,7 @@ pub enum QueryFault {
     #[error("the query point is a root of one")]
     Root,
     /// There was no memory for the verifier share.
-    #[error("out of memory")]
+    #[error("no memory")]
     NoMemory,
 }
 

@@ -19,7 +19,7 @@ pub enum RecordsFault {
     #[error("record {entry} is not of the form at byte {at}")]
     Form { entry: u64, at: usize },
     /// There was no memory for the records.
-    #[error("out of memory")]
+    #[error("no memory")]
     NoMemory,
 }
 

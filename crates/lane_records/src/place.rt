@@ -18,7 +18,7 @@ pub enum LaneFault {
     #[error("the lane's disk stopped")]
     Stopped,
     /// There was no memory.
-    #[error("out of memory")]
+    #[error("no memory")]
     NoMemory,
 }
 
@@ -29,6 +29,6 @@ pub enum FrontFault {
     #[error("the front's disk stopped")]
     Stopped,
     /// There was no memory.
-    #[error("out of memory")]
+    #[error("no memory")]
     NoMemory,
 }

@@ -153,7 +153,7 @@ fn fault_of(alloc: Global, bytes: &[u8]) -> Result<Option<usize>, Fail> {
     match read_record(alloc, bytes) {
         Ok(_record) => Ok(None),
         Err(ReadFault::Form { at }) => Ok(Some(at)),
-        Err(ReadFault::NoMemory) => Err("out of memory".into()),
+        Err(ReadFault::NoMemory) => Err("no memory".into()),
     }
 }
 
@@ -257,7 +257,7 @@ fn faults_are_printed(rt: HostRuntime) -> Result<(), Fail> {
     );
     assert_eq!(rt;
         format!(in alloc; "{}", FrontFault::NoMemory)?.as_str(),
-        "out of memory"
+        "no memory"
     );
     Ok(())
 }

@@ -16,7 +16,7 @@ pub enum ShardFault {
     #[error("a drawing is spent")]
     Spent,
     /// There was no memory for the shares.
-    #[error("out of memory")]
+    #[error("no memory")]
     NoMemory,
 }
 
@@ -27,7 +27,7 @@ pub enum PrepFault {
     #[error("the report is not valid")]
     Invalid,
     /// There was no memory for the value.
-    #[error("out of memory")]
+    #[error("no memory")]
     NoMemory,
 }
 

@@ -75,6 +75,6 @@ fn faults_of_encodings_are_printed(rt: HostRuntime) -> Result<(), Fail> {
     let bad = format!(in alloc; "{}", EncodeFault::BadValue)?;
     assert_eq!(rt; bad.as_str(), "the value is not of the kind");
     let no_memory = format!(in alloc; "{}", EncodeFault::NoMemory)?;
-    assert_eq!(rt; no_memory.as_str(), "out of memory");
+    assert_eq!(rt; no_memory.as_str(), "no memory");
     Ok(())
 }

@@ -334,6 +334,6 @@ fn faults_of_queries_are_printed(rt: HostRuntime) -> Result<(), Fail> {
     let root = format!(in alloc; "{}", QueryFault::Root)?;
     assert_eq!(rt; root.as_str(), "the query point is a root of one");
     let no_memory = format!(in alloc; "{}", QueryFault::NoMemory)?;
-    assert_eq!(rt; no_memory.as_str(), "out of memory");
+    assert_eq!(rt; no_memory.as_str(), "no memory");
     Ok(())
 }
