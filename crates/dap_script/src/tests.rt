@@ -20,8 +20,64 @@ collect v 7200
 restart leader
 restart helper";
 
+/// Texts, and the line that is refused, or 0 where none is.
+const REFUSALS: [(&[u8], u32); 34] = [
+    (b"", 0),
+    (b"\n\r\n#\n# a \xc2", 4),
+    (b"# ends with a return\r", 0),
+    (b"\n\r", 2),
+    (b"\r\r\n", 1),
+    (b"collect v 0\r", 1),
+    (b" \n", 1),
+    (b"collect v 0 \n", 1),
+    (b"collect  v 0\n", 1),
+    (b"Collect v 0", 1),
+    (b"collect V 0", 1),
+    (b"collect v 01", 1),
+    (b"collect v +1", 1),
+    (b"collect v -1", 1),
+    (b"collect v 1000000000000000000", 1),
+    (b"collect v 0 1", 1),
+    (b"task v count 0 1", 1),
+    (b"task v count 1000001 1", 1),
+    (b"task v count 1 1000000001", 1),
+    (b"task v sum 0 1 1", 1),
+    (b"task v sum 65 1 1", 1),
+    (b"task v histogram 1,1 1 1", 1),
+    (b"task v histogram 1,,2 1 1", 1),
+    (b"task v histogram 18446744073709551616 1 1", 1),
+    (
+        b"task v histogram 1 1 1\ntask w count 1 1\n\ntask v sum 1 1 1\nx",
+        4,
+    ),
+    (b"task v count 1 1\nmeasure w 0 0 0 0\ntask v count 1 1", 2),
+    (
+        b"measure v 0000000000000000000000000000000A 0 0 00000000000000000000000000000000",
+        1,
+    ),
+    (
+        b"measure v 0000000000000000000000000000000a 0 18446744073709551616 00000000000000000000000000000000",
+        1,
+    ),
+    (b"now 1000000000000000000", 1),
+    (b"upload Zg==\nupload Zg=", 2),
+    (b"upload Zh==", 1),
+    (b"upload ", 1),
+    (b"restart both", 1),
+    (b"restart leader helper", 1),
+];
+
 fn name(text: &[u8]) -> Result<Name, Fail> {
     Ok(Name::new(text).ok_or("a name")?)
+}
+
+fn task(text: &[u8], kind: Kind, min: u32, precision: u32) -> Result<Line, Fail> {
+    Ok(Line::Task {
+        name: name(text)?,
+        kind,
+        min,
+        precision,
+    })
 }
 
 #[test]
@@ -34,25 +90,10 @@ fn a_script_is_its_lines(rt: HostRuntime) -> Result<(), Fail> {
     seed[15] = 0;
     let expected = [
         Line::Blank,
-        Line::Task {
-            name: v,
-            kind: Kind::Count,
-            min: 3,
-            precision: 3600,
-        },
+        task(b"v", Kind::Count, 3, 3600)?,
         Line::Blank,
-        Line::Task {
-            name: name(b"s-1")?,
-            kind: Kind::Sum { bits: 64 },
-            min: 1_000_000,
-            precision: 1_000_000_000,
-        },
-        Line::Task {
-            name: name(b"h_")?,
-            kind: Kind::Histogram { bounds },
-            min: 1,
-            precision: 1,
-        },
+        task(b"s-1", Kind::Sum { bits: 64 }, 1_000_000, 1_000_000_000)?,
+        task(b"h_", Kind::Histogram { bounds }, 1, 1)?,
         Line::Now {
             t: 999_999_999_999_999_999,
         },
@@ -87,52 +128,7 @@ fn refused(alloc: Global, text: &[u8]) -> u32
 
 #[test]
 fn the_first_line_that_does_not_fit_is_refused(rt: HostRuntime) {
-    let cases: [(&[u8], u32); 34] = [
-        (b"", 0),
-        (b"\n\r\n#\n# a \xc2", 4),
-        (b"# ends with a return\r", 0),
-        (b"\n\r", 2),
-        (b"\r\r\n", 1),
-        (b"collect v 0\r", 1),
-        (b" \n", 1),
-        (b"collect v 0 \n", 1),
-        (b"collect  v 0\n", 1),
-        (b"Collect v 0", 1),
-        (b"collect V 0", 1),
-        (b"collect v 01", 1),
-        (b"collect v +1", 1),
-        (b"collect v -1", 1),
-        (b"collect v 1000000000000000000", 1),
-        (b"collect v 0 1", 1),
-        (b"task v count 0 1", 1),
-        (b"task v count 1000001 1", 1),
-        (b"task v count 1 1000000001", 1),
-        (b"task v sum 0 1 1", 1),
-        (b"task v sum 65 1 1", 1),
-        (b"task v histogram 1,1 1 1", 1),
-        (b"task v histogram 1,,2 1 1", 1),
-        (b"task v histogram 18446744073709551616 1 1", 1),
-        (
-            b"task v histogram 1 1 1\ntask w count 1 1\n\ntask v sum 1 1 1\nx",
-            4,
-        ),
-        (b"task v count 1 1\nmeasure w 0 0 0 0\ntask v count 1 1", 2),
-        (
-            b"measure v 0000000000000000000000000000000A 0 0 00000000000000000000000000000000",
-            1,
-        ),
-        (
-            b"measure v 0000000000000000000000000000000a 0 18446744073709551616 00000000000000000000000000000000",
-            1,
-        ),
-        (b"now 1000000000000000000", 1),
-        (b"upload Zg==\nupload Zg=", 2),
-        (b"upload Zh==", 1),
-        (b"upload ", 1),
-        (b"restart both", 1),
-        (b"restart leader helper", 1),
-    ];
-    for (text, line) in cases {
+    for (text, line) in REFUSALS {
         if text.len() <= 67_108_864 {
             assert_eq!(rt; refused(rt.alloc(), text), line);
         }
