@@ -12,7 +12,7 @@ use Rattle.dap_disk.specs.Images.{Change, Written, CutTo, Allowed, are_within}
 use Rattle.dap_disk.specs.ImageLaws.{allowed_is_reached}
 use Rattle.dap_disk.specs.History.{state_of, held_after, IsImage, WasImage, left_by, puts}
 use Rattle.dap_disk.specs.HistoryLaws.{laid_is, left_may_be}
-use Rattle.dap_disk.proofs.Pushes.{images_follow, held_is, settled_held, settled_only}
+use Rattle.dap_disk.proofs.Pushes.{images_follow, held_is, synced_is, settled_held, settled_only}
 
 module _ (first : List ℕ) (events : List Event) where
   elapses_none : Elapses (length events) (length events) (WasImage first events) (WasImage first events) (IsImage first events)
@@ -53,12 +53,18 @@ module _ (first first' : List ℕ) (events events' : List Event) (same : first' 
         (held_is first first' events events' (Wrote at v) (Written at v.items) same is (λ s. refl) ∙ laid_is at v.items (held_after first events) le
         ∙ ap (λ (b : List ℕ). written at b (held_after first events)) copy)
 
+    pub wrote_waits : (state_of first' events').synced ≡ (state_of first events).synced
+    wrote_waits = synced_is first first' events events' (Wrote at v) (Written at v.items) same is (λ s. refl)
+
   module _ (len : ℕ) (is : events' ≡ events ++ Cut len ∷ []) where
     pub cut_images : are_within (length (state_of first' events').synced) (state_of first' events').pending ≡ true → Follows (Shortened len) (IsImage first events) (IsImage first' events')
     cut_images placed = images_follow first first' events events' (Cut len) (CutTo len) same is (λ s. refl) placed
 
     pub cut_done : Some (held_after first' events') ≡ of_told (take len) (Some (held_after first events))
     cut_done = ap Some (held_is first first' events events' (Cut len) (CutTo len) same is (λ s. refl))
+
+    pub cut_waits : (state_of first' events').synced ≡ (state_of first events).synced
+    cut_waits = synced_is first first' events events' (Cut len) (CutTo len) same is (λ s. refl)
 
   module _ (image : Image) (is : ((events' ≡ events) × ((state_of first events).pending ≡ [])) ⊎ (events' ≡ events ++ Settled image ∷ [])) where
     pub settle_time : Elapses (length events) (length events') (WasImage first events) (WasImage first' events') (IsImage first' events')

@@ -1,7 +1,7 @@
 -- How the calls of a disk in memory move its plan.
-use Rattle.std.specs.Prelude.{◌≡◌, IsTrue}
+use Rattle.std.specs.Prelude.{◌≡◌, ℕ, List, IsTrue, false}
 use Rattle.dap_disk.specs.Disk.{Move, Called, Refused, Restarted}
-use Rattle.dap_disk.specs.History.{state_of, held_after, left_by}
+use Rattle.dap_disk.specs.History.{State, state_of, held_after, left_by}
 use Rattle.dap_disk.specs.Plan.{after_call, after_restart}
 use Rattle.dap_disk.specs.declared.plan.Plan.{Plan}
 use Rattle.dap_disk.specs.declared.mem_disk.MemDisk.{MemDisk}
@@ -10,10 +10,19 @@ use Rattle.dap_disk.specs.declared.mem_disk.MemDisk.{MemDisk}
 abbrev pub plan_of : MemDisk → Plan
 plan_of m = m.plan
 
--- A call that counts moves the plan one call on, and one that is refused leaves it. After a restart by the plan the disk holds what the last stop was to leave.
+-- the bytes as they read
+abbrev pub held_by : MemDisk → List ℕ
+held_by m = held_after m.store.first.items m.store.events.items
+
+-- what was on the disk at the last sync or restart, and the changes since
+abbrev pub stored : MemDisk → State
+stored m = state_of m.store.first.items m.store.events.items
+
+-- A call that counts moves the plan one call on, and settles nothing where the disk stops at it. One that is refused leaves the plan and all that is stored. After a restart by the plan the disk holds what the last stop was to leave, and where it is dead all that is stored stays.
 abbrev pub Moved : Move → MemDisk → MemDisk → Type 0
-Moved Called old new = plan_of new ≡ after_call (plan_of old)
-Moved Refused old new = plan_of new ≡ plan_of old
+Moved Called old new = (plan_of new ≡ after_call (plan_of old)) × ((plan_of new).up ≡ false → (stored new).synced ≡ (stored old).synced)
+Moved Refused old new = (plan_of new ≡ plan_of old) × (stored new ≡ stored old)
 Moved Restarted old new =
     (plan_of new ≡ after_restart (plan_of old))
-    × (IsTrue (plan_of new).up → held_after new.store.first.items new.store.events.items ≡ left_by (plan_of old).image (state_of old.store.first.items old.store.events.items))
+    × (IsTrue (plan_of new).up → held_by new ≡ left_by (plan_of old).image (stored old))
+    × ((plan_of new).up ≡ false → stored new ≡ stored old)

@@ -1,7 +1,8 @@
 //! A disk in memory that stops where it is told to.
-ghost use Rattle.std.specs.Prelude.{◌≡◌, length, Some, IsTrue};
-ghost use Rattle.dap_disk.specs.Disk.{Only};
-ghost use Rattle.dap_disk.specs.History.{held_after, IsImage, WasImage};
+ghost use Rattle.std.specs.Prelude.{◌≡◌, ◌≤◌, ◌<◌, ◌-◌, min, length, take, drop, Some, IfOk, OnOk, OnErr, IsTrue, false};
+ghost use Rattle.dap_bytes.specs.Causes.{Rose};
+ghost use Rattle.dap_disk.specs.Disk.{Tells, NoMore, Only, Elapses, CountsOne, Called};
+ghost use Rattle.dap_disk.specs.History.{IsImage, WasImage};
 ghost use Rattle.dap_disk.specs.HistoryLaws.{was_now, was_only, held_is_image};
 ghost use Rattle.dap_disk.specs.StoreLaws.{held_fits};
 
@@ -48,9 +49,9 @@ impl MemDisk {
 }
 
 impl Disk for MemDisk {
-    ghost use Rattle.dap_disk.specs.Moves.{Moved};
+    ghost use Rattle.dap_disk.specs.Moves.{Moved, held_by};
 
-    ghost holds = { λ m. Some (held_after m.store.first.items m.store.events.items) };
+    ghost holds = { λ m. Some (held_by m) };
 
     ghost up = { λ m. m.plan.up };
 
@@ -81,7 +82,23 @@ impl Disk for MemDisk {
         Ok(self.store.bytes().len() as u64)
     }
 
-    fn read(&mut self, at: u64, buf: &mut [u8]) -> Result<usize, Down> {
+    fn read(&mut self, at: u64, buf: &mut [u8]) -> Result<usize, Down>
+        requires { IsTrue self.old.plan.up }
+        ensures within { IfOk result (λ n. n ≤ length buf.old) }
+        ensures told { IfOk result (λ n. Tells (Some (held_by self.old)) (λ c. (take n buf.new ≡ take n (drop at c)) × (n ≤ length c - at) × (0 < length buf.old → at < length c → 0 < n))) }
+        ensures same { Some (held_by self.new) ≡ Some (held_by self.old) }
+        ensures images { NoMore (IsImage self.old.store.first.items self.old.store.events.items) (IsImage self.new.store.first.items self.new.store.events.items) }
+        ensures time { Elapses (length self.old.store.events.items) (length self.new.store.events.items) (WasImage self.old.store.first.items self.old.store.events.items) (WasImage self.new.store.first.items self.new.store.events.items) (IsImage self.new.store.first.items self.new.store.events.items) }
+        ensures up { OnOk result (IsTrue self.new.plan.up) }
+        ensures counts { (self.old.plan.downs ≤ self.new.plan.downs) × (self.old.plan.deads ≤ self.new.plan.deads) }
+        ensures down { OnErr result (self.new.plan.up ≡ false) }
+        ensures cause { OnErr result (Rose self.old.plan.downs self.new.plan.downs) }
+        ensures one { CountsOne self.old.plan.downs self.new.plan.downs result × (self.new.plan.deads ≡ self.old.plan.deads) }
+        ensures moves { Moved Called self.old self.new }
+
+        // It reads as far as there are bytes and room.
+        ensures full { IfOk result (λ n. n ≡ min (length buf.old) (length (held_by self.old) - at)) }
+    {
         if self.plan.stops_here() {
             return Err(Down);
         }

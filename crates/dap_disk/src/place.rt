@@ -1,5 +1,5 @@
 //! Bytes put into a file in memory, within the room that it has.
-ghost use Rattle.std.specs.Prelude.{◌≡◌, ◌≤◌, ◌<◌, ◌+◌, ◌-◌, length, take, drop, replicate, vec_capacity};
+ghost use Rattle.std.specs.Prelude.{◌≡◌, ◌≤◌, ◌<◌, ◌+◌, ◌-◌, min, length, take, drop, replicate, vec_capacity};
 ghost use Rattle.dap_disk.specs.Disk.{written};
 ghost use Rattle.dap_disk.specs.History.{change_of, changes_of, puts};
 ghost use Rattle.dap_disk.specs.Images.{greatest};
@@ -90,6 +90,7 @@ pub(crate) fn read_from(bytes: &[u8], at: u64, buf: &mut [u8]) -> usize
     ensures bytes { take result buf.new ≡ take result (drop at bytes.now) }
     ensures there { result ≤ length bytes.now - at }
     ensures some { 0 < length buf.old → at < length bytes.now → 0 < result }
+    ensures full { result ≡ min (length buf.old) (length bytes.now - at) }
 {
     if at >= bytes.len() as u64 {
         return 0;

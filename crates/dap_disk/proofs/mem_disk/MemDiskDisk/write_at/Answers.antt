@@ -1,7 +1,7 @@
-use Rattle.std.proofs.Common.{refl}
+use Rattle.std.proofs.Common.{refl, inr}
 use Rattle.dap_disk.specs.History.{held_after}
 use Rattle.dap_disk.specs.declared.event.Event.TheVariants.{Wrote}
-use Rattle.dap_disk.proofs.Calls.{push_time, wrote_images, wrote_done}
+use Rattle.dap_disk.proofs.Calls.{push_time, wrote_images, wrote_done, wrote_waits}
 use Rattle.dap_disk.proofs.mem_disk.MemDiskDisk.write_at.Goals as goal
 
 pub returns-then-stops_here-clause-images : goal.returns-then-stops_here-clause-images
@@ -23,3 +23,11 @@ returns-clause-time c =
 pub returns-clause-done : goal.returns-clause-done
 returns-clause-done c =
     wrote_done c.args.self.now.store.first.items c.write.new.self.first.items c.args.self.now.store.events.items c.write.new.self.events.items c.in-Ok.ensures.first c.args.at c.args.bytes.now c.in-Ok.ensures.ok.0 c.in-Ok.ensures.ok.1 c.in-Ok.ensures.ok.2 (c.requires.within (held_after c.args.self.now.store.first.items c.args.self.now.store.events.items) refl)
+
+pub returns-then-stops_here-clause-moves : goal.returns-then-stops_here-clause-moves
+returns-then-stops_here-clause-moves c =
+    inr (c.stops_here.ensures.next, λ stopped. wrote_waits c.args.self.now.store.first.items c.write.new.self.first.items c.args.self.now.store.events.items c.write.new.self.events.items c.in-Ok.ensures.first c.args.at c.args.bytes.now c.in-Ok.ensures.ok.0 c.in-Ok.ensures.ok.1 c.in-Ok.ensures.ok.2)
+
+pub returns-clause-moves : goal.returns-clause-moves
+returns-clause-moves c =
+    inr (c.stops_here.ensures.next, λ stopped. wrote_waits c.args.self.now.store.first.items c.write.new.self.first.items c.args.self.now.store.events.items c.write.new.self.events.items c.in-Ok.ensures.first c.args.at c.args.bytes.now c.in-Ok.ensures.ok.0 c.in-Ok.ensures.ok.1 c.in-Ok.ensures.ok.2)
