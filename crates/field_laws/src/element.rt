@@ -104,11 +104,12 @@ pub trait Field: Copy {
     }
 
     /// Appends the element's bytes, the lowest first. Without memory nothing is appended, and with
-    /// room for `WIDTH` bytes more it succeeds.
+    /// room for `WIDTH` bytes more it succeeds. The capacity never shrinks.
     fn put(self, out: &mut Vec<u8>) -> Result<(), AllocError>
         ensures ok { OnOk result (out.new.items ≡ out.old.items ++ low_bytes WIDTH (number self)) }
         ensures err { OnErr result (out.new.items ≡ out.old.items) }
         ensures succeeds { vec_len out.old + WIDTH ≤ vec_capacity out.old → IsOk result }
+        ensures capacity { vec_capacity out.old ≤ vec_capacity out.new }
     {
         out.reserve(Self::WIDTH)?;
         let mut rest = self.value();

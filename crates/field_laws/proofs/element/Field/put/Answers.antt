@@ -15,6 +15,7 @@ loop-i-preserved g c =
           ∙ ap (λ l. c.loop-i.out.items ++ l) (sym (low_bytes-step (width - c.loop-i._i) rest (omega (arith, more))))
           ∙ c.loop-i.invariant.bytes;
       room = omega (arith, more, c.push_reserved.ensures.len, c.push_reserved.ensures.capacity, c.loop-i.invariant.room);
+      capacity = omega (arith, c.push_reserved.ensures.capacity, c.loop-i.invariant.capacity);
     }
 
 pub push_reserved-requires : goal.push_reserved-requires
@@ -31,4 +32,5 @@ returns g c =
           ∙ ap (λ l. l ++ low_bytes width (g.Self.Field.number c.args.self)) c.reserve.ensures.items;
       err = tt;
       succeeds = λ room. refl;
+      capacity = omega (arith, c.reserve.ensures.capacity, c.loop-i.invariant.capacity);
     }

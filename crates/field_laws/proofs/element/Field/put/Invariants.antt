@@ -6,4 +6,5 @@ abbrev pub invariant-loop-i : goal.invariant-loop-i
 invariant-loop-i g l = record {
   bytes : l.out.items ++ low_bytes (g.Self.Field.WIDTH - l._i) l.rest ≡ l.initial.out.items ++ low_bytes g.Self.Field.WIDTH (g.Self.Field.number l.fn.self);
   room : vec_len l.out + (g.Self.Field.WIDTH - l._i) ≤ vec_capacity l.out;
+  capacity : vec_capacity l.initial.out ≤ vec_capacity l.out;
 }
