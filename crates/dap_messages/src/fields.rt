@@ -12,8 +12,11 @@ use dap_bytes::{Bytes, Cursor, Name, put_u8, put_u32};
 use std::alloc::{AllocError, Global};
 
 /// The fault of a field whose bytes run out. The cursor goes to the input's end.
+#[tactic(auto, using(crate::specs::Laws::input_past))]
 pub fn cut_off(cursor: &mut Cursor<'_>) -> Form
-    ensures { result.at ≡ length cursor.old.input }
+    ensures place { result.at ≡ length cursor.old.input }
+    ensures input { cursor.new.input ≡ cursor.old.input }
+    ensures end { cursor.new.place ≡ length cursor.old.input }
 {
     let left = cursor.rest().len();
     cursor.take(left);
