@@ -81,6 +81,12 @@ impl<D: Disk> Log<D> {
         ensures cause { IfErr result (λ e. e.fault ≡ LogFault.Down → Rose (D.downs disk) (D.downs e.disk)) }
         ensures counts { IfOk result (λ log. (D.downs disk ≤ D.downs log.disk) × (D.deads disk ≤ D.deads log.disk)) }
         ensures counts_err { IfErr result (λ e. (D.downs disk ≤ D.downs e.disk) × (D.deads disk ≤ D.deads e.disk)) }
+        ensures down { IfErr result (λ e. e.fault ≡ LogFault.Down → D.up e.disk ≡ false) }
+
+        // Where it succeeds no fault of the disk is counted, and else one stop, that of `Down`.
+        ensures calm { IfOk result (λ log. (D.downs log.disk ≡ D.downs disk) × (D.deads log.disk ≡ D.deads disk)) }
+        ensures calm_err { IfErr result (λ e. (e.fault ≡ LogFault.Down) ⊎ (D.downs e.disk ≡ D.downs disk)) }
+        ensures one { IfErr result (λ e. (D.downs e.disk ≤ D.downs disk + 1) × (D.deads e.disk ≡ D.deads disk)) }
     {
         let mut disk = disk;
         match start(alloc, &mut disk) {
@@ -150,6 +156,9 @@ impl<D: Disk> Log<D> {
         ensures at_rest { IsTrue self.new.up → self.new.coming ≡ [] }
         ensures images { Leaves D.may_leave self.new }
         ensures cause { IsErrOf result AppendFault.Down → Rose (D.downs self.old.disk) (D.downs self.new.disk) }
+        ensures calm { IsErrOf result AppendFault.Down ⊎ (D.downs self.new.disk ≡ D.downs self.old.disk) }
+        ensures one { (D.downs self.new.disk ≤ D.downs self.old.disk + 1) × (D.deads self.new.disk ≡ D.deads self.old.disk) }
+        ensures down { IsErrOf result AppendFault.Down → D.up self.new.disk ≡ false }
         ensures counts { (D.downs self.old.disk ≤ D.downs self.new.disk) × (D.deads self.old.disk ≤ D.deads self.new.disk) }
     {
         let gate = self.gate;

@@ -1,5 +1,5 @@
 //! What an append and a restart do to the disk.
-ghost use Rattle.std.specs.Prelude.{◌≡◌, ◌⊎◌, ◌≤◌, ◌<◌, ◌^◌, ◌+◌, ◌++◌, ◌↔◌, [], ◌∷◌, List, ℕ, length, take, drop, slice_index, IfOk, OnOk, IsErrOf, IsTrue};
+ghost use Rattle.std.specs.Prelude.{◌≡◌, ◌⊎◌, ◌≤◌, ◌<◌, ◌^◌, ◌+◌, ◌++◌, ◌↔◌, [], ◌∷◌, List, ℕ, length, take, drop, slice_index, IfOk, OnOk, IsErrOf, IsTrue, false};
 ghost use Rattle.dap_bytes.specs.Causes.{Rose};
 ghost use Rattle.dap_disk.specs.Disk.{Tells, NoMore, LeavesOnly, Only, of_told, written};
 ghost use Rattle.report_journal.specs.Journal.{Closed, Staged, Either, IsBlock, behind};
@@ -30,6 +30,9 @@ fn stage_block<D: Disk>(
     ensures up { OnOk result (IsTrue (D.up disk.new)) }
     ensures counts { (D.downs disk.old ≤ D.downs disk.new) × (D.deads disk.old ≤ D.deads disk.new) }
     ensures cause { IsErrOf result StoreFault.Down → Rose (D.downs disk.old) (D.downs disk.new) }
+    ensures calm { IsErrOf result StoreFault.Down ⊎ (D.downs disk.new ≡ D.downs disk.old) }
+    ensures one { (D.downs disk.new ≤ D.downs disk.old + 1) × (D.deads disk.new ≡ D.deads disk.old) }
+    ensures down { IsErrOf result StoreFault.Down → D.up disk.new ≡ false }
 {
     write_synced(disk, gate + 1, bytes)
 }
@@ -54,6 +57,9 @@ fn open_gate<D: Disk>(
     ensures up { OnOk result (IsTrue (D.up disk.new)) }
     ensures counts { (D.downs disk.old ≤ D.downs disk.new) × (D.deads disk.old ≤ D.deads disk.new) }
     ensures cause { IsErrOf result StoreFault.Down → Rose (D.downs disk.old) (D.downs disk.new) }
+    ensures calm { IsErrOf result StoreFault.Down ⊎ (D.downs disk.new ≡ D.downs disk.old) }
+    ensures one { (D.downs disk.new ≤ D.downs disk.old + 1) × (D.deads disk.new ≡ D.deads disk.old) }
+    ensures down { IsErrOf result StoreFault.Down → D.up disk.new ≡ false }
 {
     write_synced(disk, gate, &[1])
 }
@@ -81,6 +87,9 @@ pub(crate) fn write_block<D: Disk>(
     ensures memory { IsErrOf result StoreFault.NoMemory → IsTrue (D.up disk.new) × Tells (D.holds disk.new) (Closed (contents (take durable kept.now)) gate) × ((c : List ℕ) → D.may_leave disk.new c → Closed (contents (take durable kept.now)) gate c) }
     ensures counts { (D.downs disk.old ≤ D.downs disk.new) × (D.deads disk.old ≤ D.deads disk.new) }
     ensures cause { IsErrOf result StoreFault.Down → Rose (D.downs disk.old) (D.downs disk.new) }
+    ensures calm { IsErrOf result StoreFault.Down ⊎ (D.downs disk.new ≡ D.downs disk.old) }
+    ensures one { (D.downs disk.new ≤ D.downs disk.old + 1) × (D.deads disk.new ≡ D.deads disk.old) }
+    ensures down { IsErrOf result StoreFault.Down → D.up disk.new ≡ false }
 {
     stage_block(disk, kept, durable, gate, bytes)?;
     open_gate(disk, kept, durable, gate)

@@ -1,7 +1,7 @@
 //! Reading a disk whole, and making it a journal.
-ghost use Rattle.std.specs.Prelude.{◌≡◌, ◌≢◌, ◌⊎◌, ◌≤◌, ◌<◌, [], ◌∷◌, List, ℕ, length, take, slice_index, IfOk, OnOk, OnErr, IsErrOf, IsTrue, Err, true, false};
+ghost use Rattle.std.specs.Prelude.{◌≡◌, ◌≢◌, ◌⊎◌, ◌≤◌, ◌<◌, ◌+◌, [], ◌∷◌, List, ℕ, length, take, slice_index, IfOk, OnOk, OnErr, IsErrOf, IsTrue, Err, true, false};
 ghost use Rattle.dap_bytes.specs.Causes.{Rose};
-ghost use Rattle.dap_disk.specs.Disk.{Tells, NoMore, LeavesOnly, Only, of_told};
+ghost use Rattle.dap_disk.specs.Disk.{Tells, NoMore, LeavesOnly, Only, CountsOne, of_told};
 ghost use Rattle.report_journal.specs.Journal.{Closed, NoJournal, Stands};
 ghost use Rattle.report_journal.specs.Log.{contents};
 ghost use Rattle.report_journal.specs.Reading.{SameRecords, is_fresh, opened};
@@ -22,6 +22,8 @@ fn read_into<D: Disk>(disk: &mut D, buf: &mut [u8]) -> Result<usize, Down>
     ensures up { OnOk result (IsTrue (D.up disk.new)) }
     ensures counts { (D.downs disk.old ≤ D.downs disk.new) × (D.deads disk.old ≤ D.deads disk.new) }
     ensures cause { OnErr result (Rose (D.downs disk.old) (D.downs disk.new)) }
+    ensures one { CountsOne (D.downs disk.old) (D.downs disk.new) result × (D.deads disk.new ≡ D.deads disk.old) }
+    ensures down { OnErr result (D.up disk.new ≡ false) }
 {
     let mut at = 0;
     while at < buf.len() {
@@ -47,6 +49,9 @@ fn read_all<D: Disk>(alloc: Global, disk: &mut D) -> Result<Vec<u8>, LogFault>
     ensures counts { (D.downs disk.old ≤ D.downs disk.new) × (D.deads disk.old ≤ D.deads disk.new) }
     ensures cause { result ≡ Err LogFault.Down → Rose (D.downs disk.old) (D.downs disk.new) }
     ensures read { (at : ℕ) → result ≡ Err (LogFault.NotAJournal at) → ⊥ }
+    ensures calm { result ≡ Err LogFault.Down ⊎ (D.downs disk.new ≡ D.downs disk.old) }
+    ensures one { (D.downs disk.new ≤ D.downs disk.old + 1) × (D.deads disk.new ≡ D.deads disk.old) }
+    ensures down { result ≡ Err LogFault.Down → D.up disk.new ≡ false }
 {
     let size = disk.len()?;
     let mut file = Vec::new(alloc);
@@ -75,6 +80,9 @@ fn clear<D: Disk>(disk: &mut D, size: usize) -> Result<(), StoreFault>
     ensures memory { IsErrOf result StoreFault.NoMemory → (D.holds disk.new ≡ D.holds disk.old) × IsTrue (D.up disk.new) }
     ensures counts { (D.downs disk.old ≤ D.downs disk.new) × (D.deads disk.old ≤ D.deads disk.new) }
     ensures cause { IsErrOf result StoreFault.Down → Rose (D.downs disk.old) (D.downs disk.new) }
+    ensures calm { IsErrOf result StoreFault.Down ⊎ (D.downs disk.new ≡ D.downs disk.old) }
+    ensures one { (D.downs disk.new ≤ D.downs disk.old + 1) × (D.deads disk.new ≡ D.deads disk.old) }
+    ensures down { IsErrOf result StoreFault.Down → D.up disk.new ≡ false }
 {
     if size == 0 {
         return Ok(());
@@ -98,6 +106,9 @@ fn make<D: Disk>(disk: &mut D, size: usize) -> Result<(), StoreFault>
     ensures memory { IsErrOf result StoreFault.NoMemory → IsTrue (D.up disk.new) × Tells (D.holds disk.new) (λ c. length c ≤ 1) }
     ensures counts { (D.downs disk.old ≤ D.downs disk.new) × (D.deads disk.old ≤ D.deads disk.new) }
     ensures cause { IsErrOf result StoreFault.Down → Rose (D.downs disk.old) (D.downs disk.new) }
+    ensures calm { IsErrOf result StoreFault.Down ⊎ (D.downs disk.new ≡ D.downs disk.old) }
+    ensures one { (D.downs disk.new ≤ D.downs disk.old + 1) × (D.deads disk.new ≡ D.deads disk.old) }
+    ensures down { IsErrOf result StoreFault.Down → D.up disk.new ≡ false }
 {
     clear(disk, size)?;
     write_synced(disk, 0, &[0])?;
@@ -129,6 +140,9 @@ pub(crate) fn start<D: Disk>(alloc: Global, disk: &mut D) -> Result<(Vec<Vec<u8>
     ensures memory { result ≡ Err LogFault.NoMemory → IsTrue (D.up disk.new) × Tells (D.holds disk.new) (SameRecords (D.holds disk.old)) }
     ensures cause { result ≡ Err LogFault.Down → Rose (D.downs disk.old) (D.downs disk.new) }
     ensures counts { (D.downs disk.old ≤ D.downs disk.new) × (D.deads disk.old ≤ D.deads disk.new) }
+    ensures calm { result ≡ Err LogFault.Down ⊎ (D.downs disk.new ≡ D.downs disk.old) }
+    ensures one { (D.downs disk.new ≤ D.downs disk.old + 1) × (D.deads disk.new ≡ D.deads disk.old) }
+    ensures down { result ≡ Err LogFault.Down → D.up disk.new ≡ false }
 {
     disk.sync()?;
     let file = read_all(alloc, disk)?;
