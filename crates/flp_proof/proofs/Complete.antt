@@ -242,15 +242,30 @@ module _ {F : Type 0} {ring : Ring F} (laws : RingLaws ring) (half : F) (root : 
       ∙ ap (λ e. ring.add (c.validity o x joint r) (c.validity u y joint s) ∷ e) (sym (push-add ws vs (eval ring g t) (eval ring h t) (w_size ∙ sym v_size)))
       ∙ sym (cons-add (c.validity o x joint r) (c.validity u y joint s) (ws ++ (eval ring g t ∷ [])) (vs ++ (eval ring h t ∷ [])))
 
+  -- the queries of the two shares add to that of the whole
+  query_halves : (x y p q seeds joint : List F) (t : F) → length x ≡ c.input_len → length y ≡ c.input_len → length joint ≡ c.joint_len
+      → add_polynomials ring p q ≡ proof_of ring half root c (add_polynomials ring x y) seeds
+      → query_of ring half root c ring.unit (add_polynomials ring x y) (proof_of ring half root c (add_polynomials ring x y) seeds) joint t
+      ≡ add_polynomials ring (query_of ring half root c half x p joint t) (query_of ring half root c half y q joint t)
+  query_halves x y p q seeds joint t hx hy hj shares =
+      let xy : List F = add_polynomials ring x y in
+      ap (λ o. query_of ring half root c o xy (proof_of ring half root c xy seeds) joint t) (sym halves)
+      ∙ ap (λ π. query_of ring half root c (ring.add half half) xy π joint t) (sym shares)
+      ∙ query-add half half x y p q joint t hx hy hj
+
   -- the proof of a valid input is accepted on the sum of the two shares' queries
   pub complete : (x y p q seeds joint : List F) (t : F) → length x ≡ c.input_len → length y ≡ c.input_len → length joint ≡ c.joint_len → length seeds ≡ c.arity
       → add_polynomials ring p q ≡ proof_of ring half root c (add_polynomials ring x y) seeds
       → IsValid ring c (add_polynomials ring x y) joint
       → Accepts ring c (add_polynomials ring (query_of ring half root c half x p joint t) (query_of ring half root c half y q joint t))
   complete x y p q seeds joint t hx hy hj hs shares valid =
-      let xy : List F = add_polynomials ring x y in
-      subst (Accepts ring c)
-      (ap (λ o. query_of ring half root c o xy (proof_of ring half root c xy seeds) joint t) (sym halves)
-      ∙ ap (λ π. query_of ring half root c (ring.add half half) xy π joint t) (sym shares)
-      ∙ query-add half half x y p q joint t hx hy hj)
-      (whole_accepted xy seeds joint t hs valid)
+      subst (Accepts ring c) (query_halves x y p q seeds joint t hx hy hj shares) (whole_accepted (add_polynomials ring x y) seeds joint t hs valid)
+
+  -- and where it is accepted, the input is valid: the first entry is the whole's validity value
+  pub only_valid : (x y p q seeds joint : List F) (t : F) → length x ≡ c.input_len → length y ≡ c.input_len → length joint ≡ c.joint_len → length seeds ≡ c.arity
+      → add_polynomials ring p q ≡ proof_of ring half root c (add_polynomials ring x y) seeds
+      → Accepts ring c (add_polynomials ring (query_of ring half root c half x p joint t) (query_of ring half root c half y q joint t))
+      → IsValid ring c (add_polynomials ring x y) joint
+  only_valid x y p q seeds joint t hx hy hj hs shares accepted =
+      ap (λ v. get_or v 0 ring.nought) (sym (query_whole (add_polynomials ring x y) seeds joint ring.unit t hs) ∙ query_halves x y p q seeds joint t hx hy hj shares)
+      ∙ accepted.0

@@ -20,6 +20,18 @@ pub fn valid_proofs_are_accepted<C: Circuit>(c: &C)
         (query_of C.F.ring C.F.half_of C.F.root_of (C.shape c.now) C.F.half_of y q joint t)) }
 {}
 
+/// A law, the other way round: where the sum of the queries of two shares is accepted, and their proofs add to the
+/// input's own proof, the input is valid at this joint randomness. It says nothing of proofs that are made otherwise.
+pub fn accepted_inputs_are_valid<C: Circuit>(c: &C)
+    ensures { (x y p q seeds joint : List C.F) (t : C.F) → length x ≡ (C.shape c.now).input_len → length y ≡ (C.shape c.now).input_len
+        → length joint ≡ (C.shape c.now).joint_len → length seeds ≡ (C.shape c.now).arity
+        → add_polynomials C.F.ring p q ≡ proof_of C.F.ring C.F.half_of C.F.root_of (C.shape c.now) (add_polynomials C.F.ring x y) seeds
+        → Accepts C.F.ring (C.shape c.now) (add_polynomials C.F.ring
+        (query_of C.F.ring C.F.half_of C.F.root_of (C.shape c.now) C.F.half_of x p joint t)
+        (query_of C.F.ring C.F.half_of C.F.root_of (C.shape c.now) C.F.half_of y q joint t))
+        → IsValid C.F.ring (C.shape c.now) (add_polynomials C.F.ring x y) joint }
+{}
+
 /// A law: P is the least power of two that is above the number of calls; a wire polynomial has degree below P and its
 /// values at the powers of the root of order P, as no other has; and the gadget polynomial is the gadget of the wire
 /// polynomials at every point, in 2 (P - 1) + 1 coefficients.

@@ -14,7 +14,7 @@ mod values;
 mod wires;
 
 pub use deciding::decide;
-pub use laws::{proofs_meet_their_equations, valid_proofs_are_accepted};
+pub use laws::{accepted_inputs_are_valid, proofs_meet_their_equations, valid_proofs_are_accepted};
 pub use proving::prove;
 pub use querying::{QueryFault, query};
 pub use sizes::proof_len;

@@ -9,8 +9,8 @@ use field64::Field64;
 use field128::Field128;
 use flp_circuits::{Circuit, Count, Sum};
 use flp_proof::{
-    QueryFault, decide, proof_len, proofs_meet_their_equations, prove, query,
-    valid_proofs_are_accepted,
+    QueryFault, accepted_inputs_are_valid, decide, proof_len, proofs_meet_their_equations, prove,
+    query, valid_proofs_are_accepted,
 };
 use std::alloc::{AllocError, Global};
 use std::process::Abort;
@@ -97,6 +97,7 @@ fn check_proof<C: Circuit>(rt: &impl Abort, alloc: Global, c: &C, case: Case) ->
     check_root(rt, alloc, c, &x, &proof, &joint);
     check_number(rt, proof_len(c) as u128, proof.len() as u128);
     valid_proofs_are_accepted(c);
+    accepted_inputs_are_valid(c);
     proofs_meet_their_equations(c);
     Ok(())
 }
