@@ -3,7 +3,7 @@
 use thiserror::Error;
 
 /// Why nothing is drawn.
-#[derive(Debug, Drop, Error)]
+#[derive(Debug, PartialEq, Eq, Drop, Error)]
 pub enum DrawFault {
     /// More than 128 numbers of the stream were skipped.
     #[error("the drawing is spent")]

@@ -11,8 +11,8 @@ use poly_ntt::inverse;
 use std::alloc::{AllocError, Global};
 
 /// The proof for the input `x`, `proof_len` elements: the wire seeds, one for each wire, then the gadget polynomial's
-/// coefficients. The joint
-/// randomness belongs to the proof's interface in the draft, and these circuits' gadgets don't depend on it.
+/// coefficients. The joint randomness belongs to the proof's interface in the draft, and these circuits' gadgets don't
+/// depend on it.
 pub fn prove<C: Circuit>(
     alloc: Global,
     c: &C,
