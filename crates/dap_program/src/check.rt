@@ -1,6 +1,6 @@
 //! The command `check`.
 
-ghost use Rattle.std.specs.Prelude.{◌≡◌, ◌≤◌, ℕ, List, IfOk, IfErr, IfSome, IsErrOf};
+ghost use Rattle.std.specs.Prelude.{◌≡◌, ◌⊎◌, ◌≤◌, ℕ, List, IfOk, IfErr, IfSome, IsErrOf};
 ghost use Rattle.std.specs.List.{flat_map};
 ghost use Rattle.dap_bytes.specs.Causes.{Rose};
 ghost use Rattle.dap_tasks.specs.File.{tasks_of};
@@ -46,6 +46,8 @@ pub fn check<F: Files, K: Sink>(
     ensures silent { IfErr result (λ status. IsSilent status → K.held out.new ≡ K.held out.old) }
     ensures read { IsErrOf result Status.ReadFault → Rose (F.faults files.old) (F.faults files.new) }
     ensures write { IsErrOf result Status.WriteFault → Rose (K.faults out.old) (K.faults out.new) }
+    ensures calm { IsErrOf result Status.ReadFault ⊎ (F.faults files.new ≡ F.faults files.old) }
+    ensures calm_sink { IsErrOf result Status.WriteFault ⊎ (K.faults out.new ≡ K.faults out.old) }
     ensures reads { F.faults files.old ≤ F.faults files.new }
     ensures writes { K.faults out.old ≤ K.faults out.new }
     ensures kept { (file : List ℕ) → F.contents files.new file ≡ F.contents files.old file }

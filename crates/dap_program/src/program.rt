@@ -39,6 +39,9 @@ fn perform<S: Source, F: Files, K: Sink>(
         → IfSome (file_of (plain command.entry) (F.contents files.old)) (λ file. IsTasksRefused file task field) }
     ensures silent { IfErr result (λ status. IsSilent status → K.held out.new ≡ K.held out.old) }
     ensures read { IsErrOf result Status.ReadFault → Rose (S.faults script.old) (S.faults script.new) ⊎ Rose (F.faults files.old) (F.faults files.new) }
+    ensures calm { IsErrOf result Status.ReadFault ⊎ (S.faults script.new ≡ S.faults script.old) }
+    ensures calm_files { IsErrOf result Status.ReadFault ⊎ (F.faults files.new ≡ F.faults files.old) }
+    ensures calm_sink { IsErrOf result Status.WriteFault ⊎ (K.faults out.new ≡ K.faults out.old) }
     ensures write { IsErrOf result Status.WriteFault → Rose (K.faults out.old) (K.faults out.new) }
     ensures reads { S.faults script.old ≤ S.faults script.new }
     ensures reads_files { F.faults files.old ≤ F.faults files.new }
@@ -93,9 +96,12 @@ pub fn dap_alone<S: Source, F: Files, K: Sink>(
         → ¬ Rose (K.faults out.old) (K.faults out.new)
         → IfTold (word_texts words.now) (S.left script.old) (F.contents files.old) (λ work. (result ≡ Status.NoMemory) ⊎ (result ≡ status_of work)) }
 
-    // A fault is answered only where it happened in this call, and the counts of faults never fall.
+    // A fault is answered where it happened in this call, and only there, and the counts of faults never fall.
     ensures read { result ≡ Status.ReadFault → Rose (S.faults script.old) (S.faults script.new) ⊎ Rose (F.faults files.old) (F.faults files.new) }
     ensures write { result ≡ Status.WriteFault → Rose (K.faults out.old) (K.faults out.new) }
+    ensures calm { (result ≡ Status.ReadFault) ⊎ (S.faults script.new ≡ S.faults script.old) }
+    ensures calm_files { (result ≡ Status.ReadFault) ⊎ (F.faults files.new ≡ F.faults files.old) }
+    ensures calm_sink { (result ≡ Status.WriteFault) ⊎ (K.faults out.new ≡ K.faults out.old) }
     ensures reads { S.faults script.old ≤ S.faults script.new }
     ensures reads_files { F.faults files.old ≤ F.faults files.new }
     ensures writes { K.faults out.old ≤ K.faults out.new }

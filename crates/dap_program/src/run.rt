@@ -46,6 +46,7 @@ fn run_lines<K: Sink>(
         (run_outcome given.items lines.now (passed_in functions_of_kind run_limits given.items lines.now)) }
     ensures only { IfErr result IsRunStop }
     ensures fault { IsErrOf result Status.WriteFault → Rose (K.faults out.old) (K.faults out.new) }
+    ensures calm { IsErrOf result Status.WriteFault ⊎ (K.faults out.new ≡ K.faults out.old) }
     ensures later { K.faults out.old ≤ K.faults out.new }
 {
     match printed_text::<Prio3>(alloc, &LIMITS, given, lines) {
@@ -74,6 +75,7 @@ fn run_script<K: Sink>(
     ensures only { IfErr result IsScriptStop }
     ensures silent { IfErr result (λ status. IsSilent status → K.held out.new ≡ K.held out.old) }
     ensures fault { IsErrOf result Status.WriteFault → Rose (K.faults out.old) (K.faults out.new) }
+    ensures calm { IsErrOf result Status.WriteFault ⊎ (K.faults out.new ≡ K.faults out.old) }
     ensures later { K.faults out.old ≤ K.faults out.new }
 {
     let lines = lines_run(alloc, &given, script)?;
@@ -92,6 +94,7 @@ fn given_tasks<F: Files>(
     ensures refused { (task : ℕ) (field : List ℕ) → IsErrOf result (Status.TasksRefused task field)
         → IfSome (file_of (Running (plain_name name.entry)) (F.contents files.old)) (λ file. IsTasksRefused file task field) }
     ensures fault { IsErrOf result Status.ReadFault → Rose (F.faults files.old) (F.faults files.new) }
+    ensures calm { IsErrOf result Status.ReadFault ⊎ (F.faults files.new ≡ F.faults files.old) }
     ensures later { F.faults files.old ≤ F.faults files.new }
     ensures kept { (file : List ℕ) → F.contents files.new file ≡ F.contents files.old file }
     ensures untouched { plain_name name.entry ≡ None → files.new ≡ files.old }
@@ -117,6 +120,9 @@ pub fn run<S: Source, F: Files, K: Sink>(
     ensures end { OnOk result (IsAtEnd (S.left script.new)) }
     ensures silent { IfErr result (λ status. IsSilent status → K.held out.new ≡ K.held out.old) }
     ensures read { IsErrOf result Status.ReadFault → Rose (S.faults script.old) (S.faults script.new) ⊎ Rose (F.faults files.old) (F.faults files.new) }
+    ensures calm { IsErrOf result Status.ReadFault ⊎ (S.faults script.new ≡ S.faults script.old) }
+    ensures calm_files { IsErrOf result Status.ReadFault ⊎ (F.faults files.new ≡ F.faults files.old) }
+    ensures calm_sink { IsErrOf result Status.WriteFault ⊎ (K.faults out.new ≡ K.faults out.old) }
     ensures write { IsErrOf result Status.WriteFault → Rose (K.faults out.old) (K.faults out.new) }
     ensures reads { S.faults script.old ≤ S.faults script.new }
     ensures reads_files { F.faults files.old ≤ F.faults files.new }
