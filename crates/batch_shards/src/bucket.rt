@@ -30,10 +30,14 @@ impl From<AllocError> for BucketFault {
 /// What is kept of one batch. Its numbers stand still at their type's end.
 #[derive(Debug, Drop)]
 pub struct Bucket {
+    /// How many reports were added.
     pub reports: u64,
+    /// How many were rejected.
     pub rejected: u64,
+    /// The checksum of the added ones' identifiers.
     pub checksum: Checksum,
     /// The sum of the reports' out shares, none before the first.
     pub sum: Option<Bytes>,
+    /// Whether nothing is taken any more.
     pub closed: bool,
 }

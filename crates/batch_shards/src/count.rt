@@ -6,8 +6,12 @@ use dap_batch::Checksum;
 /// identifiers, and whether it is closed.
 #[derive(Clone, Copy, Debug, PartialEq, Eq)]
 pub struct Count {
+    /// How many reports were added.
     pub reports: u32,
+    /// How many were rejected.
     pub rejected: u32,
+    /// The checksum of the added ones' identifiers.
     pub checksum: [u8; Checksum::LEN],
+    /// Whether nothing is taken any more.
     pub closed: bool,
 }

@@ -1,6 +1,6 @@
 //! The fields of which reports, messages and records are made: a reader for each, and what appends it. The readers of
-//! this module but `read_bytes` take no memory. After a refusal a cursor stands at any place of its input, and what was
-//! appended to may have a part of the field.
+//! this module but `read_bytes` take no memory. After a refusal nothing is said of the cursor, and what was appended to
+//! may have a part of the field.
 
 ghost use Rattle.std.specs.Prelude.{◌≡◌, ◌≤◌, ◌<◌, ◌^◌, ◌++◌, ◌∷◌, length, OnOk};
 ghost use Rattle.std.specs.Int.{w16, w32, w64, to_be_bytes};

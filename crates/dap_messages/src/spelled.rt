@@ -14,8 +14,8 @@ pub trait Spelled: Drop {
     /// How its values stand in bytes.
     ghost grammar: { Grammar Self };
 
-    /// The value at the cursor, which is behind it then: `Form` at the first fault exactly where there is none, the
-    /// cursor then at any place of its input.
+    /// The value at the cursor, which is behind it then: `Form` at the first fault exactly where there is none;
+    /// nothing is said of the cursor then.
     fn read(alloc: Global, cursor: &mut Cursor<'_>) -> Result<Self, ReadFault>
         ensures { Gives grammar cursor.old result cursor.new };
 

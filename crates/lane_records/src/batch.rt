@@ -12,9 +12,13 @@ use std::alloc::{AllocError, Global};
 /// shares of the sum.
 #[derive(Debug, Drop)]
 pub struct Answered {
+    /// How many reports of the batch were finished, by both nodes alike.
     pub count: u32,
+    /// How many were rejected.
     pub rejected: u32,
+    /// The leader's share of the sum: the bytes of its out shares' sum, at most 16,384.
     pub leader: Bytes,
+    /// The helper's share, likewise.
     pub helper: Bytes,
 }
 
@@ -22,17 +26,24 @@ pub struct Answered {
 /// leader's finished reports.
 #[derive(Debug, Drop)]
 pub struct Request {
+    /// The task's name.
     pub name: Name,
+    /// Where the batch begins, in units of time.
     pub start: u64,
+    /// How many reports the leader finished.
     pub count: u32,
+    /// The checksum of their identifiers.
     pub checksum: [u8; 32],
 }
 
 /// A ShareResp as the helper's front keeps it: the task's name, the batch's start, and the answer.
 #[derive(Debug, Drop)]
 pub struct Response {
+    /// The task's name.
     pub name: Name,
+    /// Where the batch begins, in units of time.
     pub start: u64,
+    /// The helper's share, or why there is none.
     pub reply: Reply,
 }
 

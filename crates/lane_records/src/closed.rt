@@ -10,9 +10,13 @@ use std::alloc::{AllocError, Global};
 /// the finished ones' identifiers, and the sum of their out shares.
 #[derive(Debug, Drop)]
 pub struct Closed {
+    /// How many reports were finished.
     pub count: u32,
+    /// How many were rejected.
     pub rejected: u32,
+    /// The checksum of the finished ones' identifiers.
     pub checksum: [u8; 32],
+    /// The sum of their out shares, as its bytes, at most 16,384.
     pub share: Bytes,
 }
 

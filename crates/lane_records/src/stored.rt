@@ -19,11 +19,17 @@ use vdaf_api::Kind;
 /// task.
 #[derive(Debug, Drop)]
 pub struct StoredTask {
+    /// What tells it from other tasks.
     pub name: Name,
+    /// What it measures.
     pub kind: Kind,
+    /// From how many reports on a batch may be collected.
     pub min: u32,
+    /// How long a batch is, in units of time.
     pub precision: u32,
+    /// The key with which both nodes verify reports.
     pub verify: [u8; 16],
+    /// This node's own sealing keys.
     pub keys: SealKeys,
 }
 
