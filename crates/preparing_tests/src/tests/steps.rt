@@ -108,6 +108,19 @@ fn is_invalid<T: Drop>(answer: Result<T, PrepFault>) -> Result<bool, PrepFault> 
     }
 }
 
+/// Whether a half of a report is refused at once under a verify key.
+pub(super) fn is_refused<C: Circuit>(
+    alloc: Global,
+    c: &C,
+    kind: u8,
+    role: Role,
+    key: &[u8; 16],
+    public: &[u8],
+    input: &[u8],
+) -> Result<bool, PrepFault> {
+    is_invalid(init(alloc, c, kind, role, key, &ID, public, input))
+}
+
 /// The stage at which a report is refused.
 fn stage_of<C: Circuit>(
     alloc: Global,
