@@ -15,7 +15,10 @@ mod text;
 
 pub use bytes::Bytes;
 pub use cursor::Cursor;
-pub use limits::{GREATEST_MINIMUM, GREATEST_PRECISION, LATEST_TIME};
+pub use limits::{
+    GREATEST_MINIMUM, GREATEST_PRECISION, LATEST_TIME, LONGEST_BLOCK, LONGEST_SCRIPT,
+    LONGEST_TASK_FILE,
+};
 pub use name::Name;
 pub use node::Node;
 pub use numbers::{put_u8, put_u16, put_u32, put_u64};

@@ -130,8 +130,18 @@ mod tests {
             assert!(rt; Name::new(text) == Some(name));
         }
         let too_long = [b'a'; 33];
-        for text in [b"".as_slice(), b"V", b"a b", b"a.b", too_long.as_slice()] {
+        for text in [b"".as_slice(), b"V", b"a b", too_long.as_slice()] {
             assert!(rt; Name::new(text).is_none());
+        }
+    }
+
+    #[test]
+    fn names_have_no_character_beside_the_ranges(rt: HostRuntime) {
+        for byte in *b"az09_-" {
+            assert!(rt; Name::new(&[byte]).is_some());
+        }
+        for byte in *b"`{/:^,.@AZ~ \n\0\x7f\x80\xff" {
+            assert!(rt; Name::new(&[byte]).is_none() && Name::new(&[b'a', byte]).is_none());
         }
     }
 

@@ -69,3 +69,15 @@ fn a_cursor_gives_parts_and_numbers_in_order(rt: HostRuntime) {
     assert!(rt; cursor.u8().is_none());
     assert_eq!(rt; cursor.take(0), Some(bytes.split_at(18).1));
 }
+
+#[test]
+fn the_limits_are_those_of_the_formats(rt: HostRuntime) {
+    assert_eq!(rt; LATEST_TIME, 999_999_999_999_999_999);
+    assert_eq!(rt;
+        (GREATEST_MINIMUM, GREATEST_PRECISION),
+        (1_000_000, 1_000_000_000)
+    );
+    assert_eq!(rt; LONGEST_SCRIPT, 64 * 1024 * 1024);
+    assert_eq!(rt; LONGEST_TASK_FILE, 1024 * 1024);
+    assert_eq!(rt; LONGEST_BLOCK, 16 * 1024 * 1024);
+}
