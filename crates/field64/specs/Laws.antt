@@ -2,9 +2,11 @@
 use Rattle.std.proofs.Common.{◌≡◌, ℕ, ◌-◌, ◌*◌, ◌%◌, ◌<◌, sym, ap, ◌∙◌, refl, lit<}
 use Rattle.std.proofs.Math.Nat.{mod-eq_of_lt}
 use Rattle.field_laws.specs.Ring.{RingLaws, RootLaws, power}
-use Rattle.field_laws.specs.Residues.{Residues, residue_ring, IsModular}
-use Rattle.field_laws.proofs.Modulo.{residue_ring_laws, residue_ring_modular}
+use Rattle.field_laws.specs.Residues.{Residues, residue_ring}
+use Rattle.field_laws.specs.Primes.{IsPrime}
+use Rattle.field_laws.proofs.Modulo.{residue_by_number, residue_ring_laws}
 use Rattle.field_laws.proofs.Compute.{power_modulo, power_turns, half_doubled, residue-power, roots_from}
+use Rattle.field_laws.proofs.Proth.{proth}
 use Rattle.field64.specs.Modulus.{modulus}
 use Rattle.field64.specs.declared.element.Field64.{Field64}
 use Rattle.field64.specs.Element.{number_of, residue_of, ring_of, generator, root_of_log, half_element}
@@ -17,24 +19,19 @@ same a b e =
     let small : (n : ℕ) → IsProp (n < modulus) = λ n. hlevel props in
     λ i. record { number = e i; below = is_prop→PathP (λ j. e j < modulus) (λ j. small (e j)) a.below b.below i }
 
--- an element whose number is the rest of n is the residue of n
-pub is_residue : (x : Field64) (n : ℕ) → x.number ≡ n % modulus → x ≡ residue_of n
-unfolding residue_of
-is_residue x n e = same x (residue_of n) e
-
--- and the other way round
-pub number-residue : (n : ℕ) → (residue_of n).number ≡ n % modulus
-unfolding residue_of
-number-residue n = refl
-
 -- the elements are the numbers below p
 pub residues : Residues modulus number_of residue_of
+unfolding residue_of
 residues = record {
   large = lit< tt;
   below = λ x. x.below;
-  residue-number = λ x. sym (is_residue x x.number (sym (mod-eq_of_lt x.below)));
-  number-residue = number-residue;
+  residue-number = λ x. same (residue_of x.number) x (mod-eq_of_lt x.below);
+  number-residue = λ n. refl;
 }
+
+-- an element whose number is the rest of n is the residue of n
+pub is_residue : (x : Field64) (n : ℕ) → x.number ≡ n % modulus → x ≡ residue_of n
+is_residue = residue_by_number residues
 
 -- the ring is that of the residues
 pub is_residue_ring : ring_of ≡ residue_ring modulus number_of residue_of
@@ -43,10 +40,6 @@ is_residue_ring = refl
 -- a commutative ring with one
 pub ring_laws : RingLaws ring_of
 ring_laws = residue_ring_laws residues
-
--- each result by its number: numbers.add a b is that of a sum
-pub numbers : IsModular modulus number_of ring_of
-numbers = residue_ring_modular residues
 
 -- computed by the check: 7 raised to (2^32 - 1) 2^31, the generator raised to half its order, is p - 1
 pub computed : power_modulo modulus 7 64 (4294967295 * 2147483648) ≡ modulus - 1
@@ -74,3 +67,7 @@ generator_is x e =
     is_residue x 1753635133440165772 e
     ∙ ap residue_of (let k : 1753635133440165772 ≡ power_modulo modulus 7 32 4294967295 = refl in k)
     ∙ sym (residue-power residues 32 7 4294967295 (lit< tt))
+
+-- the modulus is prime by the same power (Proth's test): a factor above one is at least the generator's order, whose square is above p
+pub modulus_prime : IsPrime modulus
+modulus_prime = proth residues half_element generator 31 half_law generator_turns (lit< tt)

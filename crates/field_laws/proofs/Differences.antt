@@ -1,7 +1,7 @@
 -- Negatives and differences in a ring.
-use Rattle.std.proofs.Common.{◌≡◌, List, [], ◌∷◌, sym, ap, ◌∙◌, refl}
+use Rattle.std.proofs.Common.{◌≡◌, [], ◌∷◌, sym, ap, ◌∙◌, refl}
 use Rattle.field_laws.specs.Ring.{Ring, RingLaws, minus}
-use Rattle.field_laws.proofs.Solve.{at, one, none, plus, times, solve, mul-nought, cancel, neg-by_unit}
+use Rattle.field_laws.proofs.Solve.{at, plus, times, solve, mul-nought, cancel, neg-by_unit}
 
 module _ {F : Type 0} {ring : Ring F} (laws : RingLaws ring) where
   pub neg-unique : (a b : F) → ring.add a b ≡ ring.nought → b ≡ ring.neg a

@@ -12,3 +12,7 @@ pub mod Polynomials
 pub mod Roots
 pub mod Interpolation
 pub mod Logs
+pub mod Pigeons
+pub mod Proth
+pub mod Divisors
+pub mod RootCount

@@ -11,6 +11,10 @@ module _ {F : Type 0} {p : ℕ} {number : F → ℕ} {residue : ℕ → F} (laws
   pub same_number : (a b : F) → number a ≡ number b → a ≡ b
   same_number a b e = sym (laws.residue-number a) ∙ ap residue e ∙ laws.residue-number b
 
+  -- an element whose number is the rest of n is the residue of n
+  pub residue_by_number : (x : F) (n : ℕ) → number x ≡ n % p → x ≡ residue n
+  residue_by_number x n e = same_number x (residue n) (e ∙ sym (laws.number-residue n))
+
   pub same_residue : (m n : ℕ) → m % p ≡ n % p → residue m ≡ residue n
   same_residue m n e = same_number _ _ (laws.number-residue m ∙ e ∙ sym (laws.number-residue n))
 

@@ -1,20 +1,16 @@
 -- Sums of powers of a root of one whose order is a power of two.
-use Rattle.std.proofs.Common.{◌≡◌, ℕ, zero, suc, ◌+◌, ◌*◌, ◌/◌, ◌%◌, ◌^◌, ◌<◌, ◌⊎◌, inl, inr, [], ◌∷◌, sym, ap, ◌∙◌, refl, arith}
+use Rattle.std.proofs.Common.{◌≡◌, ℕ, zero, suc, ◌+◌, ◌*◌, ◌/◌, ◌^◌, ◌<◌, ◌⊎◌, inl, inr, [], ◌∷◌, sym, ap, ◌∙◌, refl, arith}
 use Rattle.std.proofs.Math.Nat.{pow-suc, mul_comm}
 use Rattle.field_laws.specs.Ring.{Ring, RingLaws, power}
 use Rattle.field_laws.proofs.Solve.{at, one, plus, times, solve, unit-mul, nought-add, mul-nought, nought-mul}
 use Rattle.field_laws.proofs.Powers.{power-zero, power-suc, power-add, power-mul, power-double, power-of_unit}
 use Rattle.field_laws.proofs.Compute.{neg-unit_square}
+use Rattle.field_laws.proofs.Orders.{parity}
 use Rattle.field_laws.specs.Sums.{sum_to}
 use Rattle.field_laws.proofs.Sums.{sum-zero, sum-suc, sum_same, sum_split, sum_scale}
 
-parity : (k : ℕ) → (k ≡ 2 * (k / 2)) ⊎ (k ≡ suc (2 * (k / 2)))
-parity k = cases (k % 2) refl
-  where
-    cases : (r : ℕ) → k % 2 ≡ r → (k ≡ 2 * (k / 2)) ⊎ (k ≡ suc (2 * (k / 2)))
-    cases zero e = inl (omega arith)
-    cases (suc zero) e = inr (omega arith)
-    cases (suc (suc r)) e = absurd (omega arith)
+halves_of : (k : ℕ) → (k ≡ 2 * (k / 2)) ⊎ (k ≡ suc (2 * (k / 2)))
+halves_of k = elim (parity k) [ inl even ↦ inl (omega arith) | inr odd ↦ inr (omega arith) ]
 
 module _ {F : Type 0} {ring : Ring F} (laws : RingLaws ring) where
   -- the sum of the first n powers of w
@@ -40,7 +36,7 @@ module _ {F : Type 0} {ring : Ring F} (laws : RingLaws ring) where
   -- x ^ (2 ^ n) is minus one, so the powers of x ^ k sum to nought, unless the order divides k
   pub powers_vanish : (n : ℕ) (x : F) (k : ℕ) → power ring x (2 ^ n) ≡ ring.neg ring.unit → 0 < k → k < 2 ^ suc n → sum_to ring (2 ^ suc n) (power ring (power ring x k)) ≡ ring.nought
   powers_vanish n x k turn above below =
-      ap (λ c. sum_to ring c (power ring (power ring x k))) (double_pow n) ∙ powers_twice (2 ^ n) (power ring x k) ∙ parts n x k turn above below (parity k)
+      ap (λ c. sum_to ring c (power ring (power ring x k))) (double_pow n) ∙ powers_twice (2 ^ n) (power ring x k) ∙ parts n x k turn above below (halves_of k)
     where
       parts : (n : ℕ) (x : F) (k : ℕ) → power ring x (2 ^ n) ≡ ring.neg ring.unit → 0 < k → k < 2 ^ suc n → (k ≡ 2 * (k / 2)) ⊎ (k ≡ suc (2 * (k / 2)))
           → ring.add (sum_to ring (2 ^ n) (power ring (power ring x k))) (ring.mul (power ring (power ring x k) (2 ^ n)) (sum_to ring (2 ^ n) (power ring (power ring x k)))) ≡ ring.nought
@@ -58,7 +54,7 @@ module _ {F : Type 0} {ring : Ring F} (laws : RingLaws ring) where
           let vanishes : sum_to ring (2 ^ suc m) (power ring (power ring x k)) ≡ ring.nought =
           ap (λ w. sum_to ring (2 ^ suc m) (power ring w)) (ap (power ring x) even ∙ power-double laws x (k / 2))
           ∙ ap (λ c. sum_to ring c (power ring (power ring (ring.mul x x) (k / 2)))) (double_pow m) ∙ powers_twice (2 ^ m) (power ring (ring.mul x x) (k / 2))
-          ∙ parts m (ring.mul x x) (k / 2) square_turns (omega arith) half_below (parity (k / 2)) in
+          ∙ parts m (ring.mul x x) (k / 2) square_turns (omega arith) half_below (halves_of (k / 2)) in
           ap (λ s. ring.add s (ring.mul (power ring (power ring x k) (2 ^ suc m)) s)) vanishes ∙ laws.add_comm _ _ ∙ laws.add-nought _ ∙ mul-nought laws [] _
 
   -- 2 ^ n times c, and then halved n times

@@ -5,3 +5,5 @@ pub mod Vector
 pub mod Sums
 pub mod Polynomial
 pub mod Interpolation
+pub mod Primes
+pub mod Points

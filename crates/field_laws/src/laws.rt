@@ -1,9 +1,11 @@
 //! Laws of fields, for the layers above.
 
-ghost use Rattle.std.specs.Prelude.{◌≡◌, ℕ, ◌+◌, ◌/◌, ◌^◌, ◌<◌, ◌≤◌, length};
+ghost use Rattle.std.specs.Prelude.{◌≡◌, ◌≢◌, ℕ, ◌+◌, ◌/◌, ◌^◌, ◌<◌, ◌≤◌, List, length, replicate};
 ghost use Rattle.field_laws.specs.Ring.{RingLaws, HasOrder, power};
 ghost use Rattle.field_laws.specs.Residues.{IsModular};
 ghost use Rattle.field_laws.specs.Bytes.{low_bytes, from_low};
+ghost use Rattle.field_laws.specs.Primes.{IsPrime, NoDivisors};
+ghost use Rattle.field_laws.specs.Points.{AreDifferent, AreRoots};
 
 use crate::element::Field;
 
@@ -39,4 +41,16 @@ pub fn halves_make_one<F: Field>()
 pub fn bytes_spell_elements<F: Field>()
     ensures width { (x : F) → length (low_bytes F.WIDTH (F.number x)) ≡ F.WIDTH }
     ensures back { (x : F) → from_low (low_bytes F.WIDTH (F.number x)) ≡ F.number x }
+{}
+
+/// A law: the modulus is prime, so that a product is zero only where a factor is.
+pub fn products_are_zero_by_a_factor<F: Field>()
+    ensures prime { IsPrime F.MODULUS }
+    ensures factor { NoDivisors F.ring }
+{}
+
+/// A law: a polynomial with n coefficients that aren't all zero has fewer than n roots.
+pub fn roots_are_few<F: Field>()
+    ensures { (p roots : List F) → p ≢ replicate (length p) F.ring.nought → AreDifferent F.ring roots
+        → AreRoots F.ring p roots → length roots < length p }
 {}

@@ -3,8 +3,10 @@ use Rattle.std.proofs.Common.{◌≡◌, ℕ, ◌-◌, ◌*◌, ◌%◌, ◌<◌
 use Rattle.std.proofs.Math.Nat.{mod-eq_of_lt}
 use Rattle.field_laws.specs.Ring.{RingLaws, RootLaws, power}
 use Rattle.field_laws.specs.Residues.{Residues, residue_ring}
+use Rattle.field_laws.specs.Primes.{IsPrime}
 use Rattle.field_laws.proofs.Modulo.{residue_ring_laws}
 use Rattle.field_laws.proofs.Compute.{power_modulo, power_turns, half_doubled, residue-power, roots_from}
+use Rattle.field_laws.proofs.Proth.{proth}
 use Rattle.stream_tests.specs.Modulus.{modulus}
 use Rattle.stream_tests.specs.declared.element.SmallField.{SmallField}
 use Rattle.stream_tests.specs.Element.{number_of, residue_of, ring_of, generator, root_of_log, half_element}
@@ -62,3 +64,7 @@ generator_is x e =
     is_residue x 1000 e
     ∙ ap residue_of (let k : 1000 ≡ power_modulo modulus 10 32 3 = refl in k)
     ∙ sym (residue-power residues 32 10 3 (lit< tt))
+
+-- the modulus is prime by the same power (Proth's test): a factor above one is at least the generator's order, whose square is above p
+pub modulus_prime : IsPrime modulus
+modulus_prime = proth residues half_element generator 17 half_law generator_turns (lit< tt)
