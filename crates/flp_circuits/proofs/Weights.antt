@@ -4,7 +4,7 @@ use Rattle.field_laws.specs.Ring.{Ring, RingLaws, power}
 use Rattle.field_laws.proofs.Solve.{unit-mul}
 use Rattle.field_laws.proofs.Powers.{power-suc}
 use Rattle.flp_circuits.specs.Kinds.{weighted, weighed, number_of}
-use Rattle.flp_circuits.specs.Linearity.{weighted-same}
+use Rattle.flp_circuits.specs.LinearityLaws.{weighted-same}
 
 module _ {F : Type 0} {ring : Ring F} (laws : RingLaws ring) where
   pub weighted-from_ratio : (r : F) (n : ℕ) (xs : List F) → weighted ring (λ i. ring.mul r (power ring r i)) n xs ≡ weighed ring r n xs

@@ -9,8 +9,8 @@ use Rattle.field_laws.specs.Polynomial.{add_polynomials, scale}
 use Rattle.field_laws.proofs.Polynomials.{get_or-add, get_or-scale}
 use Rattle.flp_circuits.specs.Shape.{ShapeLaws, EncodeLaws, IsValid}
 use Rattle.flp_circuits.specs.Kinds.{bucket, bit, binary, one_hot, total, weighed, count_shape, sum_shape, histogram_shape}
-use Rattle.flp_circuits.specs.Linearity.{weighted-add, weighted-scale, total-add, total-scale}
-use Rattle.flp_circuits.specs.Encodings.{bucket-within, bit_is, bit_valid, bits_valid, one_hot_valid}
+use Rattle.flp_circuits.specs.LinearityLaws.{one_entry, weighted-add, weighted-scale, total-add, total-scale}
+use Rattle.flp_circuits.specs.EncodingLaws.{bucket-within, bit_is, bit_valid, bits_valid, one_hot_valid}
 
 some_then : {A : Type 0} (b : Bool) (x y : A) → (if b then Some x else None) ≡ Some y → x ≡ y
 some_then true x y e = cc
@@ -20,10 +20,6 @@ some_is : {A : Type 0} (x y : A) → Some x ≡ Some y → x ≡ y
 some_is x y e = cc
 
 module _ {F : Type 0} {ring : Ring F} (laws : RingLaws ring) where
-  one_entry : (a b : F) → add_polynomials ring (a ∷ []) (b ∷ []) ≡ ring.add a b ∷ []
-  unfolding add_polynomials
-  one_entry a b = refl
-
   pub count_keeps : ShapeLaws ring (count_shape ring)
   count_keeps = record {
     has_calls = lit≤ tt;
@@ -90,7 +86,7 @@ module _ {F : Type 0} {ring : Ring F} (laws : RingLaws ring) where
     length-encode = λ m x e. ap length (sym (some_then (nat_lt m 2) (bit ring (nat_eq m 1) ∷ []) x e));
     encode-valid = λ m x joint e hj. subst (λ y. IsValid ring (count_shape ring) y joint) (some_then (nat_lt m 2) (bit ring (nat_eq m 1) ∷ []) x e) (bit_valid laws (bit ring (nat_eq m 1)) joint (bit_is laws (nat_eq m 1)));
     length-truncate = λ x hx. refl;
-    truncate-add = λ x y hx hy. ap (λ a. a ∷ []) (get_or-add laws x y 0) ∙ sym (one_entry (get_or x 0 ring.nought) (get_or y 0 ring.nought));
+    truncate-add = λ x y hx hy. ap (λ a. a ∷ []) (get_or-add laws x y 0) ∙ sym (one_entry laws (get_or x 0 ring.nought) (get_or y 0 ring.nought));
   }
 
   pub sum_encodes : (bits : ℕ) → EncodeLaws ring (sum_shape ring bits)
@@ -102,7 +98,7 @@ module _ {F : Type 0} {ring : Ring F} (laws : RingLaws ring) where
         subst (λ y. IsValid ring (sum_shape ring bits) y joint) (some_then (nat_lt m (2 ^ bits)) (binary ring bits m) x e)
         (bits_valid laws bits (binary ring bits m) joint (λ i h. subst (λ a. (a ≡ ring.nought) ⊎ (a ≡ ring.unit)) (sym (get_or-map-range_with_len (λ i. bit ring (nat_eq (m / 2 ^ i % 2) 1)) 0 bits i i ring.nought h (omega arith))) (bit_is laws (nat_eq (m / 2 ^ i % 2) 1))));
     length-truncate = λ x hx. refl;
-    truncate-add = λ x y hx hy. ap (λ a. a ∷ []) (weighted-add laws _ bits x y) ∙ sym (one_entry _ _);
+    truncate-add = λ x y hx hy. ap (λ a. a ∷ []) (weighted-add laws _ bits x y) ∙ sym (one_entry laws _ _);
   }
 
   pub histogram_encodes : (bounds : List ℕ) → length bounds ≤ 1023 → EncodeLaws ring (histogram_shape ring bounds)

@@ -9,7 +9,7 @@ use Rattle.field_laws.proofs.Solve.{mul-nought}
 use Rattle.field_laws.proofs.Sums.{sum_only}
 use Rattle.flp_circuits.specs.Shape.{quadratic_at, Shape, gadget, wires_of, results, IsValid}
 use Rattle.flp_circuits.specs.Kinds.{bucket, bit_form, bit, one_hot, total, count_shape, sum_shape, histogram_shape}
-use Rattle.flp_circuits.specs.Linearity.{weighted-noughts, product_gadget, bit_gadget, bit-vanishes}
+use Rattle.flp_circuits.specs.LinearityLaws.{weighted-noughts, product_gadget, bit_gadget, bit-vanishes}
 
 -- a bucket is one of those that there are
 pub bucket-within : (bounds : List ℕ) (m : ℕ) → bucket bounds m < length bounds + 1

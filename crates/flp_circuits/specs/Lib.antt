@@ -1,5 +1,6 @@
 pub mod Shape
 pub mod Kinds
-pub mod Linearity
-pub mod Encodings
-pub mod Kept
+pub mod StaysValid
+pub mod LinearityLaws
+pub mod EncodingLaws
+pub mod CircuitLaws

@@ -9,6 +9,10 @@ use Rattle.flp_circuits.specs.Shape.{quadratic_at}
 use Rattle.flp_circuits.specs.Kinds.{product_form, bit_form, weighted, total}
 
 module _ {F : Type 0} {ring : Ring F} (laws : RingLaws ring) where
+  pub one_entry : (a b : F) → add_polynomials ring (a ∷ []) (b ∷ []) ≡ ring.add a b ∷ []
+  unfolding add_polynomials
+  one_entry a b = refl
+
   pub weighted-same : (v w : ℕ → F) (n : ℕ) (xs : List F) → ((i : ℕ) → v i ≡ w i) → weighted ring v n xs ≡ weighted ring w n xs
   unfolding weighted
   weighted-same v w n xs same = sum_same laws n _ _ (λ i small. ap (λ a. ring.mul a (get_or xs i ring.nought)) (same i))

@@ -1,5 +1,5 @@
 -- What a circuit computes, and the laws that it keeps.
-use Rattle.std.specs.Prelude.{◌≡◌, ℕ, ◌+◌, ◌≤◌, List, map, length, Option, Some, slice_index_or}
+use Rattle.std.specs.Prelude.{◌≡◌, ◌≢◌, ℕ, ◌+◌, ◌≤◌, List, map, length, Option, Some, slice_index_or}
 use Rattle.std.specs.List.{range_with_len}
 use Rattle.field_laws.specs.Ring.{Ring}
 use Rattle.field_laws.specs.Polynomial.{add_polynomials, scale}
@@ -54,6 +54,14 @@ results ring c x = map (λ i. gadget ring c (wires_of c x (i + 1))) (range_with_
 -- the input keeps the circuit's rules, at this joint randomness
 abbrev pub IsValid : {F : Type 0} → Ring F → Shape F → List F → List F → Type 0
 IsValid ring c x joint = c.validity ring.unit x joint (results ring c x) ≡ ring.nought
+
+-- it breaks them, at this joint randomness
+abbrev pub IsInvalid : {F : Type 0} → Ring F → Shape F → List F → List F → Type 0
+IsInvalid ring c x joint = c.validity ring.unit x joint (results ring c x) ≢ ring.nought
+
+-- some measurement's encoding it is
+abbrev pub IsEncoding : {F : Type 0} → Shape F → List F → Type 0
+IsEncoding c x = (m : ℕ) × (c.encode m ≡ Some x)
 
 -- the sizes are within the limits, and wires and validity are linear
 pub record ShapeLaws {F : Type 0} (ring : Ring F) (c : Shape F) : Type 0 where

@@ -25,7 +25,7 @@ impl<F> Count<F> {
 
 impl<E: Field> Circuit for Count<E> {
     ghost use Rattle.flp_circuits.specs.Kinds.{count_shape};
-    ghost use Rattle.flp_circuits.specs.Kept.{count_keeps, count_encodes};
+    ghost use Rattle.flp_circuits.specs.CircuitLaws.{count_keeps, count_encodes};
 
     type F = E;
 

@@ -54,7 +54,7 @@ impl<F> Histogram<F> {
 
 impl<E: Field> Circuit for Histogram<E> {
     ghost use Rattle.flp_circuits.specs.Kinds.{histogram_shape};
-    ghost use Rattle.flp_circuits.specs.Kept.{histogram_keeps, histogram_encodes};
+    ghost use Rattle.flp_circuits.specs.CircuitLaws.{histogram_keeps, histogram_encodes};
     ghost use Rattle.std.proofs.Common.{le_trans, lit≤};
 
     type F = E;

@@ -34,7 +34,7 @@ impl<F> Sum<F> {
 
 impl<E: Field> Circuit for Sum<E> {
     ghost use Rattle.flp_circuits.specs.Kinds.{sum_shape};
-    ghost use Rattle.flp_circuits.specs.Kept.{sum_keeps, sum_encodes};
+    ghost use Rattle.flp_circuits.specs.CircuitLaws.{sum_keeps, sum_encodes};
     ghost use Rattle.std.proofs.Common.{le_trans, lit≤};
 
     type F = E;

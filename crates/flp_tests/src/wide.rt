@@ -29,7 +29,8 @@ impl<F> Wide<F> {
 }
 
 impl<E: Field> Circuit for Wide<E> {
-    ghost use Rattle.flp_tests.specs.Wide.{wide_shape, wide_keeps, wide_encodes};
+    ghost use Rattle.flp_tests.specs.Wide.{wide_shape};
+    ghost use Rattle.flp_tests.specs.WideLaws.{wide_keeps, wide_encodes};
 
     type F = E;
 

@@ -6,7 +6,7 @@ use Rattle.field64.specs.Element.{ring_of}
 use Rattle.field128.specs.Laws as wide_laws
 use Rattle.field128.specs.Element as wide
 use Rattle.flp_circuits.specs.Kinds.{count_shape, sum_shape, histogram_shape}
-use Rattle.flp_circuits.specs.Kept.{count_keeps, sum_keeps, histogram_keeps, count_encodes, sum_encodes, histogram_encodes}
+use Rattle.flp_circuits.specs.CircuitLaws.{count_keeps, sum_keeps, histogram_keeps, count_encodes, sum_encodes, histogram_encodes}
 use Rattle.flp_proof.specs.Proof.{wire_log}
 use Rattle.flp_proof.proofs.Orders.{wire_log_fits}
 use Rattle.vdaf_api.specs.declared.kind.Kind.{Kind}

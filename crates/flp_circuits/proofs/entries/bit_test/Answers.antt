@@ -1,6 +1,6 @@
 use Rattle.std.proofs.Common.{ap, ◌∙◌}
 use Rattle.field_laws.specs.Ring.{minus}
-use Rattle.flp_circuits.specs.Linearity.{bit_gadget}
+use Rattle.flp_circuits.specs.LinearityLaws.{bit_gadget}
 use Rattle.flp_circuits.proofs.entries.bit_test.Goals as goal
 
 pub returns : goal.returns

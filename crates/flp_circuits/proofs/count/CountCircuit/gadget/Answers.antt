@@ -1,6 +1,6 @@
 use Rattle.std.proofs.Common.{◌≡◌, ap, ◌∙◌, arith, get_or}
 use Rattle.std.proofs.lemmas.List.{get_or_default}
-use Rattle.flp_circuits.specs.Linearity.{product_gadget}
+use Rattle.flp_circuits.specs.LinearityLaws.{product_gadget}
 use Rattle.flp_circuits.proofs.count.CountCircuit.gadget.Goals as goal
 
 pub returns : goal.returns

@@ -1,7 +1,7 @@
 use Rattle.std.proofs.Common.{◌≡◌, ap, ◌∙◌, arith, get_or}
 use Rattle.std.proofs.lemmas.List.{get_or_default}
 use Rattle.field_laws.specs.Ring.{minus}
-use Rattle.flp_circuits.specs.Linearity.{bit_gadget}
+use Rattle.flp_circuits.specs.LinearityLaws.{bit_gadget}
 use Rattle.flp_tests.proofs.wide.WideCircuit.gadget.Goals as goal
 
 pub returns : goal.returns
