@@ -2,8 +2,9 @@ use Rattle.flp_proof.proofs.Complete.{only_valid}
 use Rattle.flp_proof.proofs.laws.accepted_inputs_are_valid.Goals as goal
 
 pub returns : goal.returns
-returns g c =
+returns g c = λ x y p q seeds joint t shares accepted.
     let F = g.C.F.Field in
     let met = g.met.C.F.Field in
     let shape = g.C.Circuit.shape c.args.c.now in
     only_valid met.laws F.half_of F.root_of met.halves met.roots shape (g.met.C.Circuit.laws c.args.c.now)
+    x y p q seeds joint t shares.first_input shares.second_input shares.joint_randomness shares.wire_seeds shares.own_proof accepted
