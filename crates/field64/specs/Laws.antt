@@ -1,12 +1,10 @@
 -- What the trait asks of this field: the numbers below p are its elements, and its generator's order is computed.
-use Rattle.std.proofs.Common.{◌≡◌, ℕ, ◌-◌, ◌*◌, ◌%◌, ◌<◌, sym, ap, ◌∙◌, refl, lit<}
+use Rattle.std.proofs.Common.{◌≡◌, ℕ, ◌%◌, ◌<◌, sym, ap, ◌∙◌, refl, lit<}
 use Rattle.std.proofs.Math.Nat.{mod-eq_of_lt}
-use Rattle.field_laws.specs.Ring.{RingLaws, RootLaws, power}
 use Rattle.field_laws.specs.Residues.{Residues, residue_ring}
-use Rattle.field_laws.specs.Primes.{IsPrime}
-use Rattle.field_laws.proofs.Modulo.{residue_by_number, residue_ring_laws}
-use Rattle.field_laws.proofs.Compute.{power_modulo, power_turns, half_doubled, residue-power, roots_from}
-use Rattle.field_laws.proofs.Proth.{proth}
+use Rattle.field_laws.proofs.Modulo.{residue_by_number}
+use Rattle.field_laws.proofs.Compute.{power_modulo, residue-power}
+use Rattle.field_laws.proofs.Generated.{FieldLaws, generated}
 use Rattle.field64.specs.Modulus.{modulus}
 use Rattle.field64.specs.declared.element.Field64.{Field64}
 use Rattle.field64.specs.Element.{number_of, residue_of, ring_of, generator, root_of_log, half_element}
@@ -37,28 +35,10 @@ is_residue = residue_by_number residues
 pub is_residue_ring : ring_of ≡ residue_ring modulus number_of residue_of
 is_residue_ring = refl
 
--- a commutative ring with one
-pub ring_laws : RingLaws ring_of
-ring_laws = residue_ring_laws residues
-
--- computed by the check: 7 raised to (2^32 - 1) 2^31, the generator raised to half its order, is p - 1
-pub computed : power_modulo modulus 7 64 (4294967295 * 2147483648) ≡ modulus - 1
-computed = refl
-
--- so the generator raised to half its order is minus one
-pub generator_turns : power ring_of generator 2147483648 ≡ ring_of.neg ring_of.unit
-unfolding generator
-generator_turns = power_turns residues 64 7 4294967295 2147483648 (lit< tt) computed
-
--- and its powers are roots of one of order 2 ^ log
-pub root_laws : RootLaws ring_of 16 root_of_log
-unfolding root_of_log
-root_laws = roots_from ring_laws generator 32 16 (lit< tt) generator_turns
-
--- half doubled is one
-pub half_law : ring_of.add half_element half_element ≡ ring_of.unit
-unfolding half_element
-half_law = half_doubled residues 9223372034707292161 refl
+-- computed by the check: the generator raised to half its order is p - 1, and twice the half is one
+pub laws : FieldLaws modulus ring_of half_element root_of_log
+unfolding generator root_of_log half_element
+laws = generated residues 64 7 4294967295 32 9223372034707292161 (lit< tt) (lit< tt) (lit< tt) refl refl
 
 -- the generator's number, computed by the check
 pub generator_is : (x : Field64) → x.number ≡ 1753635133440165772 → x ≡ generator
@@ -67,7 +47,3 @@ generator_is x e =
     is_residue x 1753635133440165772 e
     ∙ ap residue_of (let k : 1753635133440165772 ≡ power_modulo modulus 7 32 4294967295 = refl in k)
     ∙ sym (residue-power residues 32 7 4294967295 (lit< tt))
-
--- the modulus is prime by the same power (Proth's test): a factor above one is at least the generator's order, whose square is above p
-pub modulus_prime : IsPrime modulus
-modulus_prime = proth residues half_element generator 31 half_law generator_turns (lit< tt)

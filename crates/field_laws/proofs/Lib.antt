@@ -14,5 +14,6 @@ pub mod Interpolation
 pub mod Logs
 pub mod Pigeons
 pub mod Proth
+pub mod Generated
 pub mod Divisors
 pub mod RootCount

@@ -1,5 +1,5 @@
 -- A number p = d e is prime where an element of its residues is minus one when squared n times, and p is below the square of 2 ^ (n + 1).
-use Rattle.std.proofs.Common.{◌≡◌, ℕ, zero, suc, [], ◌+◌, ◌-◌, ◌*◌, ◌/◌, ◌%◌, ◌^◌, ◌<◌, ◌≤◌, ◌⊎◌, inl, inr, sym, ap, ◌∙◌, refl, arith}
+use Rattle.std.proofs.Common.{◌≡◌, ◌≢◌, ℕ, zero, suc, [], ◌+◌, ◌-◌, ◌*◌, ◌/◌, ◌%◌, ◌^◌, ◌<◌, ◌≤◌, ◌⊎◌, inl, inr, sym, ap, ◌∙◌, refl, arith, lit≤}
 use Rattle.std.proofs.Math.Nat.{pow-suc, mul_comm, mul_assoc, mul-add, mul-zero, div-add-mod, mul-add-mod_self_left, mod-lt, mul-le-mul, zero-mul}
 use Rattle.std.proofs.lemmas.Bool.{cases_lt}
 use Rattle.field_laws.specs.Ring.{Ring, RingLaws, RootLaws, power}
@@ -132,15 +132,27 @@ module _ {F : Type 0} {p : ℕ} {number : F → ℕ} {residue : ℕ → F} (resi
           let more : 2 ^ (n + 1) * 2 ^ (n + 1) ≤ d * e = mul-le-mul first second in
           omega arith)
 
+  differs : {ring : Ring F} → ring ≡ residue_ring p number residue → ring.unit ≢ ring.nought
+  differs is_ring same =
+      let counts = modular residues is_ring in
+      let one : ℕ = 1 in
+      let e : one ≡ 0 = sym counts.unit ∙ ap number same ∙ counts.nought in
+      omega arith
+
+  -- the powers of a root before its order are different
+  pub different_powers : {ring : Ring F} → ring ≡ residue_ring p number residue → RingLaws ring → (half : F) (root : ℕ → F) → ring.add half half ≡ ring.unit → RootLaws ring 16 root
+      → (log : ℕ) → log ≤ 16 → (i j : ℕ) → i < j → j < 2 ^ log → power ring (root log) i ≢ power ring (root log) j
+  different_powers is_ring laws half root halves roots zero few i j low high same = absurd (let one : 2 ^ 0 ≡ 1 = refl in omega arith)
+  different_powers {ring = ring} is_ring laws half root halves roots (suc n) few i j low high same =
+      let turn : power ring (root (suc n)) (2 ^ n) ≡ ring.neg ring.unit =
+      ap (λ m. power ring (root m) (2 ^ n)) (let e : suc n ≡ n + 1 = omega arith in e) ∙ roots.turns n (omega arith) in
+      differs is_ring
+      (apart_powers laws half ring.unit halves n (root (suc n)) i j turn low (let e : 2 ^ suc n ≡ 2 ^ (n + 1) = ap (λ m. 2 ^ m) (let a : suc n ≡ n + 1 = omega arith in a) in omega arith) (ap (ring.mul ring.unit) same))
+
   -- p is at least 2 ^ 16, the order of the last root, whose powers are different
   pub modulus_large : {ring : Ring F} → ring ≡ residue_ring p number residue → RingLaws ring → (half : F) (root : ℕ → F) → ring.add half half ≡ ring.unit → RootLaws ring 16 root → 65536 ≤ p
   modulus_large {ring = ring} is_ring laws half root halves roots =
-      let counts = modular residues is_ring in
-      let many : 2 ^ (15 + 1) ≤ p = pigeons p (2 ^ (15 + 1)) (λ i. number (power ring (root (15 + 1)) i))
-      (λ i within. residues.below (power ring (root (15 + 1)) i))
-      (λ i j low high same.
-      let gone : ring.unit ≡ ring.nought = apart_powers laws half ring.unit halves 15 (root (15 + 1)) i j (roots.turns 15 (omega arith)) low high (ap (ring.mul ring.unit) (same_number residues _ _ same)) in
-      let one : ℕ = 1 in
-      let e : one ≡ 0 = sym counts.unit ∙ ap number gone ∙ counts.nought in
-      omega arith) in
+      let many : 2 ^ 16 ≤ p = pigeons p (2 ^ 16) (λ i. number (power ring (root 16) i))
+      (λ i within. residues.below (power ring (root 16) i))
+      (λ i j low high same. different_powers is_ring laws half root halves roots 16 (lit≤ tt) i j low high (same_number residues _ _ same)) in
       many

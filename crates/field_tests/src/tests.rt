@@ -1,7 +1,8 @@
 use crate::cases::{CASES_64, CASES_128, Case};
 use field_laws::{
     Field, add_all, bytes_spell_elements, elements_are_their_numbers, halves_make_one,
-    multiply_by_doubling, results_are_modular, ring_is_commutative, roots_have_their_order,
+    multiply_by_doubling, products_are_zero_by_a_factor, results_are_modular, ring_is_commutative,
+    roots_are_few, roots_have_their_order, roots_of_one_are_different,
 };
 use field64::Field64;
 use field128::Field128;
@@ -17,6 +18,9 @@ fn has_laws<F: Field>() {
     roots_have_their_order::<F>();
     halves_make_one::<F>();
     bytes_spell_elements::<F>();
+    products_are_zero_by_a_factor::<F>();
+    roots_are_few::<F>();
+    roots_of_one_are_different::<F>();
 }
 
 fn check_value(rt: &impl Abort, value: u128, want: u128) {

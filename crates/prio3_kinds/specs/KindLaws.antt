@@ -1,7 +1,7 @@
 -- Lemmas: each kind's function keeps the laws.
 use Rattle.std.proofs.Common.{lit≤, ℕ, ◌+◌, ◌-◌, ◌*◌, ◌^◌, ◌≤◌, length, arith}
 use Rattle.std.proofs.Math.Nat.{pow-le-pow_right, mul-le-mul}
-use Rattle.field64.specs.Laws.{residues, ring_laws, root_laws, half_law, is_residue_ring}
+use Rattle.field64.specs.Laws.{residues, laws, is_residue_ring}
 use Rattle.field64.specs.Element.{ring_of}
 use Rattle.field128.specs.Laws as wide_laws
 use Rattle.field128.specs.Element as wide
@@ -18,13 +18,13 @@ use Rattle.prio3_prep.proofs.Measures.{prio_laws}
 use Rattle.prio3_kinds.specs.Kinds.{base64, base128, answer_of, functions_of_kind}
 
 pub base64_laws : BaseLaws base64
-base64_laws = record { laws = ring_laws; roots = root_laws; halves = half_law; residues = residues; is_ring = is_residue_ring; some_byte = lit≤ tt; few_bytes = lit≤ tt; room = lit≤ tt }
+base64_laws = record { laws = laws.ring_laws; roots = laws.root_laws; halves = laws.half_law; residues = residues; is_ring = is_residue_ring; some_byte = lit≤ tt; few_bytes = lit≤ tt; room = lit≤ tt }
 
 pub base128_laws : BaseLaws base128
 base128_laws = record {
-  laws = wide_laws.ring_laws;
-  roots = wide_laws.root_laws;
-  halves = wide_laws.half_law;
+  laws = wide_laws.laws.ring_laws;
+  roots = wide_laws.laws.root_laws;
+  halves = wide_laws.laws.half_law;
   residues = wide_laws.residues;
   is_ring = wide_laws.is_residue_ring;
   some_byte = lit≤ tt;
@@ -43,11 +43,11 @@ short inputs calls arity width hi hc ha hw =
     omega arith
 
 pub kind_laws : (kind : Kind) → IsKind kind → FunctionLaws (functions_of_kind kind)
-kind_laws Count h = prio_laws base64_laws (count_shape ring_of) (count_keeps ring_laws) (count_encodes ring_laws) 0 (answer_of Count) (short 1 1 2 8 (lit≤ tt) (lit≤ tt) (lit≤ tt) (lit≤ tt))
+kind_laws Count h = prio_laws base64_laws (count_shape ring_of) (count_keeps laws.ring_laws) (count_encodes laws.ring_laws) 0 (answer_of Count) (short 1 1 2 8 (lit≤ tt) (lit≤ tt) (lit≤ tt) (lit≤ tt))
 kind_laws (Sum bits) h =
-    prio_laws base128_laws (sum_shape wide.ring_of bits) (sum_keeps wide_laws.ring_laws bits h.0 (omega (arith, h.1))) (sum_encodes wide_laws.ring_laws bits) 1 (answer_of (Sum bits))
+    prio_laws base128_laws (sum_shape wide.ring_of bits) (sum_keeps wide_laws.laws.ring_laws bits h.0 (omega (arith, h.1))) (sum_encodes wide_laws.laws.ring_laws bits) 1 (answer_of (Sum bits))
     (short bits bits 1 16 h.1 h.1 (lit≤ tt) (lit≤ tt))
 kind_laws (Histogram bounds) h =
     let few : length bounds + 1 ≤ 64 = omega (arith, h.few) in
-    prio_laws base128_laws (histogram_shape wide.ring_of bounds) (histogram_keeps wide_laws.ring_laws bounds (omega arith)) (histogram_encodes wide_laws.ring_laws bounds (omega arith)) 2 (answer_of (Histogram bounds))
+    prio_laws base128_laws (histogram_shape wide.ring_of bounds) (histogram_keeps wide_laws.laws.ring_laws bounds (omega arith)) (histogram_encodes wide_laws.laws.ring_laws bounds (omega arith)) 2 (answer_of (Histogram bounds))
     (short (length bounds + 1) (length bounds + 1) 1 16 few few (lit≤ tt) (lit≤ tt))

@@ -3,8 +3,8 @@ use Rattle.field_laws.proofs.Modulo.{modular}
 use Rattle.field_laws.proofs.Orders.{unit-differs, root_order}
 use Rattle.field_laws.proofs.laws.roots_have_their_order.Goals as goal
 
-pub returns-clause-order : goal.returns-clause-order
-returns-clause-order g c =
+pub returns-clause-has_its_order : goal.returns-clause-has_its_order
+returns-clause-has_its_order g c =
     let ring = g.F.Field.ring in
     let number = g.F.Field.number in
     let counts = modular g.met.F.Field.residues g.met.F.Field.is_ring in
