@@ -36,9 +36,13 @@ module _ {F : Type 0} (ring : Ring F) (half : F) (root : ℕ → F) (c : Shape F
   abbrev pub defect : List F → List F → List F
   defect x proof = add_polynomials ring (gadget_polynomial ring half root c x proof) (scale ring (ring.neg ring.unit) (drop c.arity proof))
 
-  -- the two shares' queries at t, each with half of one, add to a verifier that is accepted
+  -- the sum of the two shares' queries at t, each with half of one
+  abbrev pub verifier : List F → List F → List F → List F → List F → F → List F
+  verifier x y p q joint t = add_polynomials ring (query_of ring half root c half x p joint t) (query_of ring half root c half y q joint t)
+
+  -- it is accepted
   abbrev pub AcceptsAt : List F → List F → List F → List F → List F → F → Type 0
-  AcceptsAt x y p q joint t = Accepts ring c (add_polynomials ring (query_of ring half root c half x p joint t) (query_of ring half root c half y q joint t))
+  AcceptsAt x y p q joint t = Accepts ring c (verifier x y p q joint t)
 
   -- and so at each of these points
   abbrev pub AcceptsAtEach : List F → List F → List F → List F → List F → List F → Type 0

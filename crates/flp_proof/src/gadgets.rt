@@ -33,7 +33,8 @@ pub fn push_values<F: Field>(out: &mut Vec<F>, wires: &[Vec<F>], t: F) -> Result
 
 /// Appends entry `k` of each table, zero where there is none.
 fn push_entries<F: Field>(out: &mut Vec<F>, tables: &[Vec<F>], k: usize) -> Result<(), AllocError>
-    ensures { OnOk result (out.new.items ≡ out.old.items ++ map (λ w. slice_index_or w.items k F.ring.nought) tables.now) }
+    ensures { OnOk result (out.new.items
+        ≡ out.old.items ++ map (λ w. slice_index_or w.items k F.ring.nought) tables.now) }
 {
     for table in tables {
         out.push(entry_at(table, k))?;
@@ -50,7 +51,8 @@ pub fn gadget_values<C: Circuit>(
 ) -> Result<Vec<C::F>, AllocError>
     requires few { log ≤ 12 }
     requires wires { length tables.now ≡ (C.shape c.now).arity }
-    ensures { IfOk result (λ v. v.items ≡ map (λ k. gadget C.F.ring (C.shape c.now) (map (λ w. slice_index_or w.items k C.F.ring.nought) tables.now)) (range_with_len 0 (2 ^ log))) }
+    ensures { IfOk result (λ v. v.items ≡ map (λ k. gadget C.F.ring (C.shape c.now)
+        (map (λ w. slice_index_or w.items k C.F.ring.nought) tables.now)) (range_with_len 0 (2 ^ log))) }
 {
     let order: usize = 1 << log;
     let mut values = Vec::new(alloc);

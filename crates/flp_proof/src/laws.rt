@@ -32,16 +32,18 @@ pub fn accepted_inputs_are_valid<C: Circuit>(c: &C)
 /// values at the powers of the root of order P, as no other has; and the gadget polynomial is the gadget of the wire
 /// polynomials at every point, in 2 (P - 1) + 1 coefficients.
 pub fn proofs_meet_their_equations<C: Circuit>(c: &C)
-    ensures above { (C.shape c.now).calls < 2 ^ wire_log (C.shape c.now).calls }
-    ensures least { (log : ℕ) → (C.shape c.now).calls < 2 ^ log → wire_log (C.shape c.now).calls ≤ log }
-    ensures wires { (x seeds : List C.F) (j : ℕ) → Interpolates C.F.ring (C.F.root_of (wire_log (C.shape c.now).calls))
+    ensures is_above_the_calls { (C.shape c.now).calls < 2 ^ wire_log (C.shape c.now).calls }
+    ensures is_the_least { (log : ℕ) → (C.shape c.now).calls < 2 ^ log → wire_log (C.shape c.now).calls ≤ log }
+    ensures wires_interpolate { (x seeds : List C.F) (j : ℕ)
+        → Interpolates C.F.ring (C.F.root_of (wire_log (C.shape c.now).calls))
         (wire_values C.F.ring C.F.half_of C.F.root_of (C.shape c.now) x (slice_index_or seeds j C.F.ring.nought) j)
         (wire C.F.ring C.F.half_of C.F.root_of (C.shape c.now) x seeds j) }
-    ensures gadget { (x seeds : List C.F) (t : C.F)
+    ensures is_the_gadget_of_the_wires { (x seeds : List C.F) (t : C.F)
         → eval C.F.ring (gadget_polynomial C.F.ring C.F.half_of C.F.root_of (C.shape c.now) x seeds) t
         ≡ gadget C.F.ring (C.shape c.now) (wires_at C.F.ring C.F.half_of C.F.root_of (C.shape c.now) x seeds t) }
-    ensures size { (x seeds : List C.F)
-        → length (gadget_polynomial C.F.ring C.F.half_of C.F.root_of (C.shape c.now) x seeds) ≡ gadget_degree (C.shape c.now) + 1 }
+    ensures has_its_size { (x seeds : List C.F)
+        → length (gadget_polynomial C.F.ring C.F.half_of C.F.root_of (C.shape c.now) x seeds)
+        ≡ gadget_degree (C.shape c.now) + 1 }
 {}
 
 /// A law: where an input is invalid at this joint randomness, then whatever the proof is and however both are split into
@@ -49,12 +51,12 @@ pub fn proofs_meet_their_equations<C: Circuit>(c: &C)
 /// polynomial of degree at most 2 (P - 1) that isn't zero there and doesn't depend on the point. So there are at most
 /// 2 (P - 1) such points. It counts points, and says nothing of chances.
 pub fn invalid_inputs_are_refused<C: Circuit>(c: &C)
-    ensures roots { (x y p q joint : List C.F) (t : C.F) → AreShares (C.shape c.now) x y p q joint
+    ensures accepted_points_are_roots { (x y p q joint : List C.F) (t : C.F) → AreShares (C.shape c.now) x y p q joint
         → IsInvalid C.F.ring (C.shape c.now) (add_polynomials C.F.ring x y) joint
         → AcceptsAt C.F.ring C.F.half_of C.F.root_of (C.shape c.now) x y p q joint t
         → HasRoot C.F.ring (gadget_degree (C.shape c.now)) (defect C.F.ring C.F.half_of C.F.root_of (C.shape c.now)
         (add_polynomials C.F.ring x y) (add_polynomials C.F.ring p q)) t }
-    ensures count { (x y p q joint ts : List C.F) → AreShares (C.shape c.now) x y p q joint
+    ensures accepted_points_are_few { (x y p q joint ts : List C.F) → AreShares (C.shape c.now) x y p q joint
         → IsInvalid C.F.ring (C.shape c.now) (add_polynomials C.F.ring x y) joint → AreDifferent C.F.ring ts
         → AcceptsAtEach C.F.ring C.F.half_of C.F.root_of (C.shape c.now) x y p q joint ts
         → length ts ≤ gadget_degree (C.shape c.now) }

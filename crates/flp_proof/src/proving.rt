@@ -23,7 +23,8 @@ pub fn prove<C: Circuit>(
     requires input { length x.now ≡ (C.shape c.now).input_len }
     requires seeds { length seeds.now ≡ (C.shape c.now).arity }
     requires joint { length joint.now ≡ (C.shape c.now).joint_len }
-    ensures proof { IfOk result (λ p. p.items ≡ proof_of C.F.ring C.F.half_of C.F.root_of (C.shape c.now) x.now seeds.now) }
+    ensures proof { IfOk result (λ p. p.items
+        ≡ proof_of C.F.ring C.F.half_of C.F.root_of (C.shape c.now) x.now seeds.now) }
     ensures size { IfOk result (λ p. length p.items ≡ proof_len (C.shape c.now)) }
 {
     let log = log_above(c.calls());

@@ -38,7 +38,8 @@ fn verifier_share<C: Circuit>(
     requires input { length x.now ≡ (C.shape c.now).input_len }
     requires proof { length proof.now ≡ proof_len (C.shape c.now) }
     requires joint { length joint.now ≡ (C.shape c.now).joint_len }
-    ensures share { IfOk result (λ v. v.items ≡ query_of C.F.ring C.F.half_of C.F.root_of (C.shape c.now) one x.now proof.now joint.now t) }
+    ensures share { IfOk result (λ v. v.items
+        ≡ query_of C.F.ring C.F.half_of C.F.root_of (C.shape c.now) one x.now proof.now joint.now t) }
     ensures size { IfOk result (λ v. length v.items ≡ (C.shape c.now).arity + 2) }
 {
     let log = log_above(c.calls());
@@ -67,9 +68,11 @@ pub fn query<C: Circuit>(
     requires input { length x.now ≡ (C.shape c.now).input_len }
     requires proof { length proof.now ≡ proof_len (C.shape c.now) }
     requires joint { length joint.now ≡ (C.shape c.now).joint_len }
-    ensures share { IfOk result (λ v. v.items ≡ query_of C.F.ring C.F.half_of C.F.root_of (C.shape c.now) one x.now proof.now joint.now t) }
+    ensures share { IfOk result (λ v. v.items
+        ≡ query_of C.F.ring C.F.half_of C.F.root_of (C.shape c.now) one x.now proof.now joint.now t) }
     ensures size { IfOk result (λ v. length v.items ≡ (C.shape c.now).arity + 2) }
-    ensures root { (result ≡ Err QueryFault.Root) ↔ (power C.F.ring t (2 ^ wire_log (C.shape c.now).calls) ≡ C.F.ring.unit) }
+    ensures root { (result ≡ Err QueryFault.Root)
+        ↔ (power C.F.ring t (2 ^ wire_log (C.shape c.now).calls) ≡ C.F.ring.unit) }
 {
     let log = log_above(c.calls());
     let is_root = t.pow(1 << log).is_same(C::F::one());

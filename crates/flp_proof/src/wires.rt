@@ -39,7 +39,8 @@ fn wire_of<C: Circuit>(
     requires few { log ≤ 11 }
     requires input { length x.now ≡ (C.shape c.now).input_len }
     requires wire { j < (C.shape c.now).arity }
-    ensures { IfOk result (λ p. p.items ≡ interpolated C.F.ring C.F.half_of C.F.root_of log (wire_values C.F.ring C.F.half_of C.F.root_of (C.shape c.now) x.now seed j)) }
+    ensures { IfOk result (λ p. p.items ≡ interpolated C.F.ring C.F.half_of C.F.root_of log
+        (wire_values C.F.ring C.F.half_of C.F.root_of (C.shape c.now) x.now seed j)) }
 {
     let order: usize = 1 << log;
     let mut values = Vec::new(alloc);
@@ -62,7 +63,9 @@ pub fn wires_of<C: Circuit>(
     requires few { log ≤ 11 }
     requires input { length x.now ≡ (C.shape c.now).input_len }
     requires seeds { (C.shape c.now).arity ≤ length seeds.now }
-    ensures { IfOk result (λ all. map (λ w. w.items) all.items ≡ map (wire C.F.ring C.F.half_of C.F.root_of (C.shape c.now) x.now seeds.now) (range_with_len 0 (C.shape c.now).arity)) }
+    ensures { IfOk result (λ all. map (λ w. w.items) all.items
+        ≡ map (wire C.F.ring C.F.half_of C.F.root_of (C.shape c.now) x.now seeds.now)
+        (range_with_len 0 (C.shape c.now).arity)) }
 {
     let mut wires = Vec::new(alloc);
     for j in 0..c.arity() {
@@ -83,7 +86,9 @@ pub fn tables_of<C: Circuit>(
     requires few { log ≤ 11 }
     requires input { length x.now ≡ (C.shape c.now).input_len }
     requires seeds { (C.shape c.now).arity ≤ length seeds.now }
-    ensures { IfOk result (λ all. map (λ w. w.items) all.items ≡ map (λ j. values_at_powers C.F.ring (C.F.root_of (log + 1)) (2 ^ (log + 1)) (wire C.F.ring C.F.half_of C.F.root_of (C.shape c.now) x.now seeds.now j)) (range_with_len 0 (C.shape c.now).arity)) }
+    ensures { IfOk result (λ all. map (λ w. w.items) all.items
+        ≡ map (λ j. values_at_powers C.F.ring (C.F.root_of (log + 1)) (2 ^ (log + 1))
+        (wire C.F.ring C.F.half_of C.F.root_of (C.shape c.now) x.now seeds.now j)) (range_with_len 0 (C.shape c.now).arity)) }
 {
     let mut tables = Vec::new(alloc);
     for j in 0..c.arity() {

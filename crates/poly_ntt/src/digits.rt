@@ -26,7 +26,8 @@ fn reverse_digits(i: usize, log: u8) -> usize
 pub fn reorder<F: Field>(p: &mut [F], log: u8)
     requires few { log ≤ 12 }
     requires size { length p.old ≡ 2 ^ log }
-    ensures { (k : ℕ) → k < 2 ^ log → slice_index_or p.new k F.ring.nought ≡ slice_index_or p.old (reversed log k) F.ring.nought }
+    ensures { (k : ℕ) → k < 2 ^ log
+        → slice_index_or p.new k F.ring.nought ≡ slice_index_or p.old (reversed log k) F.ring.nought }
 {
     for i in 0..p.len() {
         let j = reverse_digits(i, log);

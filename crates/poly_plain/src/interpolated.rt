@@ -12,7 +12,8 @@ use std::alloc::{AllocError, Global};
 fn coefficients<F: Field>(alloc: Global, values: &[F], log: u8) -> Result<Vec<F>, AllocError>
     requires few { log ≤ 12 }
     requires size { length values.now ≡ 2 ^ log }
-    ensures { IfOk result (λ p. p.items ≡ interpolation F.ring F.half_of (power F.ring (F.root_of log) (2 ^ log - 1)) log values.now) }
+    ensures { IfOk result (λ p. p.items
+        ≡ interpolation F.ring F.half_of (power F.ring (F.root_of log) (2 ^ log - 1)) log values.now) }
 {
     let inverse = F::root(log).pow((values.len() - 1) as u128);
     let scale = F::half().pow(u128::from(log));
@@ -29,7 +30,8 @@ fn coefficients<F: Field>(alloc: Global, values: &[F], log: u8) -> Result<Vec<F>
 /// k of the root of that order. No other has them: [`interpolation_is_unique`].
 pub fn interpolate<F: Field>(alloc: Global, values: &[F]) -> Result<Vec<F>, AllocError>
     requires { HasLog (length values.now) 12 }
-    ensures { (log : ℕ) → length values.now ≡ 2 ^ log → IfOk result (λ p. Interpolates F.ring (F.root_of log) values.now p.items) }
+    ensures { (log : ℕ) → length values.now ≡ 2 ^ log
+        → IfOk result (λ p. Interpolates F.ring (F.root_of log) values.now p.items) }
 {
     let log = log_of(values.len());
     coefficients(alloc, values, log)
@@ -38,7 +40,8 @@ pub fn interpolate<F: Field>(alloc: Global, values: &[F]) -> Result<Vec<F>, Allo
 /// A law: there is one polynomial, and no second one, with given values at the powers of the root of their number.
 pub fn interpolation_is_unique<F: Field>()
     ensures exists { (log : ℕ) (values : List F) → log ≤ 16 → length values ≡ 2 ^ log
-        → Interpolates F.ring (F.root_of log) values (interpolation F.ring F.half_of (power F.ring (F.root_of log) (2 ^ log - 1)) log values) }
+        → Interpolates F.ring (F.root_of log) values
+        (interpolation F.ring F.half_of (power F.ring (F.root_of log) (2 ^ log - 1)) log values) }
     ensures unique { (log : ℕ) (values p q : List F) → log ≤ 16 → length values ≡ 2 ^ log
         → Interpolates F.ring (F.root_of log) values p → Interpolates F.ring (F.root_of log) values q → p ≡ q }
 {}

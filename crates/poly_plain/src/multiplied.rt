@@ -22,7 +22,8 @@ pub fn mul<F: Field>(alloc: Global, a: &[F], b: &[F]) -> Result<Vec<F>, AllocErr
     requires second { 0 < length b.now }
     ensures product { IfOk result (λ p. p.items ≡ product F.ring a.now b.now) }
     ensures size { IfOk result (λ p. length p.items + 1 ≡ length a.now + length b.now) }
-    ensures value { IfOk result (λ p. (x : F) → eval F.ring p.items x ≡ F.ring.mul (eval F.ring a.now x) (eval F.ring b.now x)) }
+    ensures value { IfOk result (λ p. (x : F) → eval F.ring p.items x
+        ≡ F.ring.mul (eval F.ring a.now x) (eval F.ring b.now x)) }
 {
     let mut made = Vec::new(alloc);
     for _j in 1..b.len() {
