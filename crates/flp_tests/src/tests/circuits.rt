@@ -2,7 +2,10 @@ use super::elements::{between_10_and_20, check_elements, check_flag, sized, size
 use field_laws::Field;
 use field64::Field64;
 use field128::Field128;
-use flp_circuits::{Circuit, Count, EncodeFault, Sum, encodings_are_valid, shares_are_linear};
+use flp_circuits::{
+    Circuit, Count, EncodeFault, Sum, encodings_are_valid, only_counts_are_valid,
+    only_histograms_stay_valid, only_sums_stay_valid, shares_are_linear,
+};
 use std::alloc::Global;
 use std::process::Abort;
 use std::test::Fail;
@@ -41,6 +44,9 @@ fn check_small<F: Field>(rt: &impl Abort, alloc: Global) -> Result<(), Fail> {
     check_encoding(rt, alloc, &sum, 0, &[0, 0, 0], &[0])?;
     check_encoding(rt, alloc, &sum, 7, &[1, 1, 1], &[7])?;
     check_refusal(rt, alloc, &sum, 8);
+    only_counts_are_valid::<F>();
+    only_sums_stay_valid::<F>();
+    only_histograms_stay_valid::<F>();
     Ok(())
 }
 
