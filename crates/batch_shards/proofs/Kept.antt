@@ -10,7 +10,7 @@ use Rattle.std.specs.Map.{lookup, set_value}
 use Rattle.std.proofs.lemmas.Map.Steps.{set_value_same}
 use Rattle.std.specs.BTreeMap.{BTreeMap}
 use Rattle.std.specs.FinMap as map
-use Rattle.dap_batch.proofs.Maps.{pair-same, pair-total, get-lookup, inserted}
+use Rattle.dap_batch.specs.MapLaws.{pair-same, pair-total, get-lookup, inserted}
 use Rattle.batch_shards.specs.declared.bucket.Bucket.{Bucket}
 use Rattle.batch_shards.specs.declared.bucket.BucketFault.{BucketFault}
 use Rattle.batch_shards.specs.declared.bucket.BucketFault.TheVariants.{Closed, NoMemory}
@@ -44,6 +44,10 @@ held es kept name start b is found = ap (λ o. unwrap_or o nothing) (kept-get es
 pub not_held : (es : Entries) (kept : Kept) (name : List ℕ) (start : ℕ) → map.from_entries es ≡ kept → None ≡ entry_of es name start
     → bucket_of kept name start ≡ nothing
 not_held es kept name start is none = ap (λ o. unwrap_or o nothing) (kept-get es kept name start is ∙ sym none)
+
+pub absent : (es : Entries) (kept : Kept) (name : List ℕ) (start : ℕ) → map.from_entries es ≡ kept → None ≡ entry_of es name start
+    → map.get kept (name, start) ≡ None
+absent es kept name start is none = kept-get es kept name start is ∙ sym none
 
 -- a map from which nothing was lent is as it was
 pub not_lent : (m n : BTreeMap Batch Bucket) (kept : Kept) → n ≡ m → map.from_entries m.entries ≡ kept → map.from_entries {R = batch_order} n.entries ≡ kept

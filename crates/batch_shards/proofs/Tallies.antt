@@ -5,7 +5,7 @@ use Rattle.std.proofs.lemmas.List.{map-append}
 use Rattle.std.proofs.Math.ListN.{length-append}
 use Rattle.sha2.specs.Sha256.{sha256}
 use Rattle.dap_batch.specs.Checksum.{checksum_of, xor_bytes}
-use Rattle.dap_batch.proofs.Sums.{checksum_of-push, checksum_of-middle}
+use Rattle.dap_batch.specs.ChecksumLaws.{checksum_of-push, checksum_of-middle}
 use Rattle.vdaf_api.specs.declared.space.Space.{Space}
 use Rattle.vdaf_api.specs.Vectors.{SpaceLaws, IsOut, plus, zero_share}
 use Rattle.vdaf_api.specs.Totals.{total}

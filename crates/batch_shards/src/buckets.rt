@@ -1,6 +1,6 @@
 //! The table of batches.
 
-ghost use Rattle.std.specs.Prelude.{◌≡◌, ◌≢◌, ◌^◌, ◌<◌, ◌++◌, ◌∷◌, [], IfOk, List, OnErr, OnOk, ℕ, true, false};
+ghost use Rattle.std.specs.Prelude.{◌≡◌, ◌≢◌, ◌^◌, ◌<◌, ◌++◌, ◌∷◌, [], IfOk, List, None, OnErr, OnOk, ℕ, true, false};
 ghost use Rattle.std.specs.FinMap as map;
 ghost use Rattle.vdaf_api.specs.Vectors.{IsOut};
 ghost use Rattle.batch_shards.specs.Bucket.{closed_for_good, count_of, nothing, sum_or_zero, with_rejected, with_report, IsSum, Opens};
@@ -46,7 +46,7 @@ impl Buckets {
     }
 
     /// Counts a report of a batch, and adds its out share to the batch's sum. `Closed` exactly where the batch is
-    /// closed. A refusal changes nothing.
+    /// closed. A refusal changes nothing. It takes memory for a batch's first report alone.
     pub fn add<V: Vdaf>(
         &mut self,
         vdaf: &V,
@@ -61,6 +61,7 @@ impl Buckets {
         ensures ok { OnOk result (self.new ≡ changed self.old name.now start
             (with_report (V.functions vdaf.now).space id.now out.now (bucket_of self.old name.now start))) }
         ensures held_again { IsSum (V.functions vdaf.now).space (bucket_of self.new name.now start).sum }
+        ensures memory { result ≡ Err BucketFault.NoMemory → (bucket_of self.old name.now start).sum ≡ None }
         ensures err { OnErr result (self.new ≡ self.old) }
     {
         let space = vdaf.space();
@@ -72,12 +73,15 @@ impl Buckets {
         self.keep(name, start, bucket)
     }
 
-    /// Counts a rejected report of a batch. `Closed` exactly where the batch is closed. A refusal changes nothing.
+    /// Counts a rejected report of a batch. `Closed` exactly where the batch is closed. A refusal changes nothing. It
+    /// takes memory for a batch of which nothing is held, and for no other.
     pub fn reject(&mut self, name: &Name, start: u64) -> Result<(), BucketFault>
         ensures closed { Opens result (bucket_of self.old name.now start).closed }
-        ensures ok { OnOk result (self.new ≡ changed self.old name.now start (with_rejected (bucket_of self.old name.now start))) }
+        ensures ok { OnOk result (self.new ≡ changed self.old name.now start
+            (with_rejected (bucket_of self.old name.now start))) }
+        ensures memory { result ≡ Err BucketFault.NoMemory → map.get self.old (name.now, start) ≡ None }
         ensures err { OnErr result (self.new ≡ self.old) }
-        ensures sum { (bucket_of self.new name.now start).sum ≡ (bucket_of self.old name.now start).sum }
+        ensures sum_stays { (bucket_of self.new name.now start).sum ≡ (bucket_of self.old name.now start).sum }
     {
         if let Some(bucket) = self.buckets.get_mut(&(*name, start)) {
             return bucket.reject();
@@ -99,12 +103,15 @@ impl Buckets {
         }
     }
 
-    /// Closes a batch for good. A batch that is closed stays as it is.
+    /// Closes a batch for good. A batch that is closed stays as it is. It takes memory for a batch of which nothing is
+    /// held, and for no other.
     pub fn close(&mut self, name: &Name, start: u64) -> Result<(), AllocError>
-        ensures ok { OnOk result (self.new ≡ changed self.old name.now start (closed_for_good (bucket_of self.old name.now start))) }
-        ensures again { (bucket_of self.old name.now start).closed ≡ true → self.new ≡ self.old }
+        ensures ok { OnOk result (self.new ≡ changed self.old name.now start
+            (closed_for_good (bucket_of self.old name.now start))) }
+        ensures stays_closed { (bucket_of self.old name.now start).closed ≡ true → self.new ≡ self.old }
+        ensures memory { OnErr result (map.get self.old (name.now, start) ≡ None) }
         ensures err { OnErr result (self.new ≡ self.old) }
-        ensures sum { (bucket_of self.new name.now start).sum ≡ (bucket_of self.old name.now start).sum }
+        ensures sum_stays { (bucket_of self.new name.now start).sum ≡ (bucket_of self.old name.now start).sum }
     {
         if let Some(bucket) = self.buckets.get_mut(&(*name, start)) {
             bucket.close();
@@ -120,7 +127,8 @@ impl Buckets {
 
     /// The sum of a batch's out shares: noughts where it has none.
     pub fn total<V: Vdaf>(&self, vdaf: &V, name: &Name, start: u64) -> Result<Vec<u8>, AllocError>
-        ensures { IfOk result (λ v. v.items ≡ sum_or_zero (V.functions vdaf.now).space (bucket_of self.now name.now start).sum) }
+        ensures { IfOk result (λ v. v.items
+            ≡ sum_or_zero (V.functions vdaf.now).space (bucket_of self.now name.now start).sum) }
     {
         match self.buckets.get(&(*name, start)) {
             Some(bucket) => bucket.total(self.alloc, &vdaf.space()),

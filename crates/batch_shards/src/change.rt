@@ -1,6 +1,6 @@
 //! Changes of one batch.
 
-ghost use Rattle.std.specs.Prelude.{◌≡◌, ◌^◌, ◌<◌, IfOk, None, OnErr, OnOk, Some};
+ghost use Rattle.std.specs.Prelude.{◌≡◌, ◌≢◌, ◌^◌, ◌<◌, IfOk, None, OnErr, OnOk, Some};
 ghost use Rattle.vdaf_api.specs.Vectors.{IsOut, plus, SpaceLaws};
 ghost use Rattle.batch_shards.specs.Bucket.{closed_for_good, count_of, nothing, sum_or_zero, sum_with, with_rejected, with_report, IsSum, Opens};
 
@@ -40,6 +40,7 @@ impl Bucket {
         ensures closed { Opens result self.old.closed }
         ensures ok { OnOk result (self.new ≡ with_report space.now id.now out.now self.old) }
         ensures held_again { IsSum space.now self.new.sum }
+        ensures memory { result ≡ Err BucketFault.NoMemory → self.old.sum ≡ None }
         ensures err { OnErr result (self.new ≡ self.old) }
     {
         if self.closed {
@@ -51,10 +52,12 @@ impl Bucket {
         Ok(())
     }
 
-    /// Counts a rejected report. `Closed` exactly where the batch is closed, and then nothing changes.
+    /// Counts a rejected report. `Closed` exactly where the batch is closed, and then nothing changes. It takes no
+    /// memory.
     pub fn reject(&mut self) -> Result<(), BucketFault>
         ensures closed { Opens result self.old.closed }
         ensures ok { OnOk result (self.new ≡ with_rejected self.old) }
+        ensures memory { result ≢ Err BucketFault.NoMemory }
         ensures err { OnErr result (self.new ≡ self.old) }
     {
         if !self.closed {

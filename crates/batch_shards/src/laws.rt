@@ -12,8 +12,10 @@ use vdaf_api::Vdaf;
 
 /// A law: a change of one batch leaves what is kept of every other batch.
 pub fn a_change_is_of_one_batch()
-    ensures changed { (kept : Kept) (name : List ℕ) (start : ℕ) (b : Bucket) → bucket_of (changed kept name start b) name start ≡ b }
-    ensures others { (kept : Kept) (name other : List ℕ) (start later : ℕ) (b : Bucket) → ((name ≢ other) ⊎ (start ≢ later))
+    ensures changed { (kept : Kept) (name : List ℕ) (start : ℕ) (b : Bucket)
+        → bucket_of (changed kept name start b) name start ≡ b }
+    ensures others { (kept : Kept) (name other : List ℕ) (start later : ℕ) (b : Bucket)
+        → ((name ≢ other) ⊎ (start ≢ later))
         → bucket_of (changed kept name start b) other later ≡ bucket_of kept other later }
 {}
 
@@ -23,7 +25,8 @@ pub fn a_bucket_is_that_of_its_reports<V: Vdaf>(vdaf: &V)
     ensures first { nothing ≡ tally (V.functions vdaf.now).space [] 0 false }
     ensures added { (reports : List Report) (rejected : ℕ) (closed : Bool) (r : Report)
         → AreOuts (V.functions vdaf.now).space reports → IsOut (V.functions vdaf.now).space r.out
-        → with_report (V.functions vdaf.now).space r.id r.out (tally (V.functions vdaf.now).space reports rejected closed)
+        → with_report (V.functions vdaf.now).space r.id r.out
+            (tally (V.functions vdaf.now).space reports rejected closed)
         ≡ tally (V.functions vdaf.now).space (reports ++ r ∷ []) rejected closed }
     ensures rejected { (reports : List Report) (rejected : ℕ) (closed : Bool)
         → with_rejected (tally (V.functions vdaf.now).space reports rejected closed)

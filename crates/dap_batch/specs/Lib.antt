@@ -1,2 +1,5 @@
 pub mod Checksum
+pub mod ChecksumLaws
 pub mod Group
+pub mod MapLaws
+pub mod XorLaws

@@ -40,7 +40,8 @@ impl Checksum {
     /// Adds an identifier, or takes it out again if it was added before. It takes no memory.
     pub fn add(&mut self, id: &Id)
         ensures bytes { self.new ≡ xor_bytes self.old (sha256 id.now) }
-        ensures identifiers { (ids : List (List ℕ)) → self.old ≡ checksum_of ids → self.new ≡ checksum_of (ids ++ id.now ∷ []) }
+        ensures identifiers { (ids : List (List ℕ)) → self.old ≡ checksum_of ids
+            → self.new ≡ checksum_of (ids ++ id.now ∷ []) }
     {
         self.bytes = xor(&self.bytes, &Sha256::digest(id.as_slice()));
     }
@@ -48,7 +49,8 @@ impl Checksum {
     /// Adds all that another checksum has. It takes no memory.
     pub fn join(&mut self, other: &Checksum)
         ensures bytes { self.new ≡ xor_bytes self.old other.now }
-        ensures identifiers { (ids more : List (List ℕ)) → self.old ≡ checksum_of ids → other.now ≡ checksum_of more → self.new ≡ checksum_of (ids ++ more) }
+        ensures identifiers { (ids more : List (List ℕ)) → self.old ≡ checksum_of ids → other.now ≡ checksum_of more
+            → self.new ≡ checksum_of (ids ++ more) }
     {
         self.bytes = xor(&self.bytes, &other.bytes);
     }

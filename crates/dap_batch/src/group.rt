@@ -11,8 +11,8 @@ pub fn batch_of(time: u64, precision: u32) -> u64
     requires { 0 < precision }
     ensures value { result ≡ batch_start time precision }
     ensures multiple { result % precision ≡ 0 }
-    ensures begun { result ≤ time }
-    ensures not_over { time < result + precision }
+    ensures starts_no_later { result ≤ time }
+    ensures ends_later { time < result + precision }
 {
     time - time % u64::from(precision)
 }

@@ -10,7 +10,8 @@ pub fn twice_is_never_for_checksums()
 
 /// A law: a checksum doesn't depend on when an identifier was added.
 pub fn no_order_changes_a_checksum()
-    ensures { (id : List ℕ) (before after : List (List ℕ)) → checksum_of (before ++ id ∷ after) ≡ checksum_of (id ∷ (before ++ after)) }
+    ensures { (id : List ℕ) (before after : List (List ℕ))
+        → checksum_of (before ++ id ∷ after) ≡ checksum_of (id ∷ (before ++ after)) }
 {}
 
 /// A law: the checksum of two parts taken together is the exclusive or of theirs.

@@ -10,7 +10,7 @@ use Rattle.vdaf_api.specs.Functions.{Functions}
 use Rattle.vdaf_api.specs.Vectors.{IsOut, SpaceLaws}
 use Rattle.dap_seal.specs.Reports.{content_numbers_of}
 use Rattle.vdaf_api.specs.declared.kind.Kind.{Kind}
-use Rattle.dap_tasks.proofs.DistinctLemmas.{bytes_eq-turned}
+use Rattle.dap_tasks.specs.DistinctLaws.{bytes_eq-turned}
 use Rattle.dap_tasks.specs.Task.{PlainTask}
 use Rattle.dap_batch.specs.Group.{batch_start}
 use Rattle.dap_messages.specs.declared.report.Report.{Report}

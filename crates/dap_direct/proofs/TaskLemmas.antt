@@ -7,7 +7,7 @@ use Rattle.std.proofs.lemmas.List.{map-append}
 use Rattle.std.proofs.lemmas.Map.Keys.{IsDistinct-head, IsDistinct-tail}
 use Rattle.std.specs.List.{AllByRecursion, IsDistinct, list_any}
 use Rattle.std.specs.Str.{bytes_eq}
-use Rattle.dap_tasks.proofs.DistinctLemmas.{bytes_eq-turned}
+use Rattle.dap_tasks.specs.DistinctLaws.{bytes_eq-turned}
 use Rattle.dap_tasks.specs.Task.{PlainTask, has_name}
 use Rattle.dap_tasks.specs.Tasks.{AreDistinct}
 use Rattle.dap_script.specs.Script.{task_names}

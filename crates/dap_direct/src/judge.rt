@@ -11,17 +11,14 @@ use crate::accepted::is_same;
 use crate::state::{Batch, Direct};
 use dap_batch::batch_of;
 use dap_messages::Report;
-use dap_tasks::{Cause, Judged};
-
-/// How far a report's time may lie above the moment.
-const EARLY_BY: u64 = 300;
+use dap_tasks::{Cause, Judged, MOST_AHEAD};
 
 /// Whether a moment is known and the time lies too far above it.
 fn is_early(moment: Option<u64>, time: u64) -> bool
     ensures { result ≡ is_early moment time }
 {
     match moment {
-        Some(moment) => moment.saturating_add(EARLY_BY) < time,
+        Some(moment) => moment.saturating_add(MOST_AHEAD) < time,
         None => false,
     }
 }

@@ -6,6 +6,7 @@ use Rattle.std.specs.declared.cmp.Ordering.TheVariants.{Less, Equal, Greater}
 use Rattle.std.specs.Ordering.{nat_cmp, is_lt}
 use Rattle.std.specs.Cmp.Lexicographic.{slice_cmp}
 use Rattle.std.proofs.lemmas.Bool.{leb-true}
+use Rattle.dap_messages.specs.declared.item.TheConstants.{MOST_ITEMS}
 use Rattle.dap_messages.specs.declared.item.Tagged.{Tagged}
 use Rattle.dap_messages.specs.Grammar.{Grammar, cells, is_above, is_between, item, items, allowed_items}
 use Rattle.dap_messages.specs.Items.{ids_of, IsAscending}
@@ -26,8 +27,8 @@ ascend g last (x ∷ y ∷ rest) a =
     let above = (and_parts (nat_eq (length y.id) 16) (is_above (Some x.id) y.id) id).1 in
     (is_less (slice_cmp nat_cmp x.id y.id) above, ascend g (Some x.id) (y ∷ rest) more)
 
-pub items_ascend : {B : Type 0} (g : Grammar B) (xs : List (Tagged B)) → (items g).allowed xs ≡ true → (1 ≤ length xs) × (length xs ≤ 64) × IsAscending (ids_of xs)
+pub items_ascend : {B : Type 0} (g : Grammar B) (xs : List (Tagged B)) → (items g).allowed xs ≡ true → (1 ≤ length xs) × (length xs ≤ MOST_ITEMS) × IsAscending (ids_of xs)
 items_ascend g xs a =
-    let parts = and_parts (is_between 1 64 (length xs)) (allowed_items g None xs) a in
-    let few = and_parts (nat_le 1 (length xs)) (nat_le (length xs) 64) parts.0 in
-    (leb-true 1 (length xs) few.0, leb-true (length xs) 64 few.1, ascend g None xs parts.1)
+    let parts = and_parts (is_between 1 MOST_ITEMS (length xs)) (allowed_items g None xs) a in
+    let few = and_parts (nat_le 1 (length xs)) (nat_le (length xs) MOST_ITEMS) parts.0 in
+    (leb-true 1 (length xs) few.0, leb-true (length xs) MOST_ITEMS few.1, ascend g None xs parts.1)

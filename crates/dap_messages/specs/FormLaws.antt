@@ -1,19 +1,23 @@
 -- Lemmas: the forms of reports and messages keep the laws of grammars.
-use Rattle.std.proofs.Common.{◌≡◌, ℕ, ◌≤◌, Bool, true, false, cond, List, Option, Some, None, refl, sym, ap, ◌∙◌, arith, lit≤}
+use Rattle.std.proofs.Common.{◌≡◌, ℕ, ◌+◌, ◌≤◌, Bool, true, false, cond, List, Option, Some, None, refl, sym, ap, ◌∙◌, arith, lit≤}
 use Rattle.std.specs.Prelude.{nat_eq, nat_le}
 use Rattle.std.specs.Int.{w16, w32, w64}
 use Rattle.std.proofs.lemmas.Bool.{eqb-true, leb-true}
 use Rattle.std.proofs.lemmas.Nat.{from_be_bytes-to_be_bytes_2, from_be_bytes-to_be_bytes_4, from_be_bytes-to_be_bytes_8}
+use Rattle.dap_bytes.specs.declared.limits.TheConstants.{LATEST_TIME}
 use Rattle.dap_messages.specs.declared.code.Code.{Code}
 use Rattle.dap_messages.specs.declared.code.Code.TheVariants.{BatchCollected, ReportReplayed, HpkeDecryptError, VdafPrepError}
+use Rattle.dap_messages.specs.declared.body.TheConstants.{MOST_PUBLIC, MOST_HELPER, MOST_PREP}
 use Rattle.dap_messages.specs.declared.body.Step.{Step}
 use Rattle.dap_messages.specs.declared.body.Step.TheVariants as steps
 use Rattle.dap_messages.specs.declared.body.Status.{Status}
 use Rattle.dap_messages.specs.declared.body.Status.TheVariants as statuses
+use Rattle.dap_messages.specs.declared.reply.TheConstants.{MOST_OUT}
 use Rattle.dap_messages.specs.declared.reply.Reply.{Reply}
 use Rattle.dap_messages.specs.declared.reply.Reply.TheVariants as replies
 use Rattle.dap_messages.specs.Grammar.{Grammar, number, byte, any_text, nothing, ◌⊗◌, variant, bytes, name}
-use Rattle.dap_messages.specs.Laws.{Lawful, number_lawful, byte_lawful, coded_lawful, cells_lawful, nothing_lawful, then_lawful, shaped_lawful, variant_lawful, sized_lawful, by_first_lawful, IsChoice, one_of, none_of, wide16, wide32, wide64, and_parts, some_is}
+use Rattle.dap_messages.specs.Lawful.{Lawful}
+use Rattle.dap_messages.specs.Laws.{number_lawful, byte_lawful, coded_lawful, cells_lawful, nothing_lawful, then_lawful, shaped_lawful, sized_lawful, by_first_lawful, IsChoice, choice, one_of, none_of, wide16, wide32, wide64, and_parts, some_is}
 use Rattle.dap_messages.specs.Forms.{any_u8, any_u32, any_u64, time, checksum, job, code_of, byte_of, code, half, continued_of, failed_of, first_of_step, step_by, step, finished_of, unfinished_of, first_of_status, status_by, status, share_of, total_of, mismatch_of, first_of_reply, reply_by, reply}
 
 -- ---- numbers
@@ -28,7 +32,7 @@ pub u64_lawful : (low high : ℕ) → high ≤ 18446744073709551615 → Lawful (
 u64_lawful low high most = number_lawful w64 low high wide64 (λ n h. from_be_bytes-to_be_bytes_8 n (omega arith))
 
 pub time_lawful : Lawful time
-time_lawful = u64_lawful 0 999999999999999999 (lit≤ tt)
+time_lawful = u64_lawful 0 LATEST_TIME (lit≤ tt)
 
 -- ---- sized fields
 
@@ -75,9 +79,9 @@ code_lawful = coded_lawful code_of byte_of code_back code_only
 
 pub half_lawful : Lawful half
 half_lawful =
-    shaped_lawful _ _ (time ⊗ bytes 32000 ⊗ bytes 32000) (λ p. refl) (λ h. refl)
-    (then_lawful time (bytes 32000 ⊗ bytes 32000) time_lawful
-    (then_lawful (bytes 32000) (bytes 32000) (bytes_lawful 32000 (lit≤ tt)) (bytes_lawful 32000 (lit≤ tt))))
+    shaped_lawful _ _ (time ⊗ bytes MOST_PUBLIC ⊗ bytes MOST_HELPER) (λ p. refl) (λ h. refl)
+    (then_lawful time (bytes MOST_PUBLIC ⊗ bytes MOST_HELPER) time_lawful
+    (then_lawful (bytes MOST_PUBLIC) (bytes MOST_HELPER) (bytes_lawful MOST_PUBLIC (lit≤ tt)) (bytes_lawful MOST_HELPER (lit≤ tt))))
 
 continued_only : (s : Step) (prep : List ℕ) → continued_of s ≡ Some prep → steps.Continued prep ≡ s
 continued_only (steps.Continued p) prep e = ap steps.Continued (sym (some_is p prep e))
@@ -87,22 +91,14 @@ failed_only : (s : Step) (c : Code) → failed_of s ≡ Some c → steps.Failed 
 failed_only (steps.Continued p) c e = absurd cc
 failed_only (steps.Failed d) c e = ap steps.Failed (sym (some_is d c e))
 
-continued_stands : (s : Step) → (variant steps.Continued continued_of (bytes 1024)).allowed s ≡ true → first_of_step s ≡ 0
-continued_stands (steps.Continued p) a = refl
-continued_stands (steps.Failed c) a = absurd cc
-
-failed_stands : (s : Step) → (variant steps.Failed failed_of code).allowed s ≡ true → first_of_step s ≡ 2
-failed_stands (steps.Continued p) a = absurd cc
-failed_stands (steps.Failed c) a = refl
-
-step_choices : (b : ℕ) (g : Grammar Step) → step_by b ≡ Some g → IsChoice first_of_step 1028 b g
+step_choices : (b : ℕ) (g : Grammar Step) → step_by b ≡ Some g → IsChoice first_of_step (4 + MOST_PREP) b g
 step_choices b g =
-    one_of first_of_step 1028 b 0 _ _ g (record { lawful = variant_lawful steps.Continued continued_of (bytes 1024) (λ x. refl) continued_only (bytes_lawful 1024 (lit≤ tt)); stands = continued_stands; within = lit≤ tt })
-    (one_of first_of_step 1028 b 2 _ _ g (record { lawful = variant_lawful steps.Failed failed_of code (λ x. refl) failed_only code_lawful; stands = failed_stands; within = lit≤ tt })
-    (none_of first_of_step 1028 b g))
+    one_of first_of_step (4 + MOST_PREP) b 0 _ _ g (choice first_of_step (4 + MOST_PREP) 0 steps.Continued continued_of (bytes MOST_PREP) (λ x. refl) continued_only (λ x. refl) (bytes_lawful MOST_PREP (lit≤ tt)) (lit≤ tt))
+    (one_of first_of_step (4 + MOST_PREP) b 2 _ _ g (choice first_of_step (4 + MOST_PREP) 2 steps.Failed failed_of code (λ x. refl) failed_only (λ x. refl) code_lawful (lit≤ tt))
+    (none_of first_of_step (4 + MOST_PREP) b g))
 
 pub step_lawful : Lawful step
-step_lawful = by_first_lawful first_of_step step_by 1028 step_choices
+step_lawful = by_first_lawful first_of_step step_by (4 + MOST_PREP) step_choices
 
 finished_only : (s : Status) (u : Unit {0}) → finished_of s ≡ Some u → statuses.Finished ≡ s
 finished_only statuses.Finished u e = refl
@@ -112,18 +108,10 @@ unfinished_only : (s : Status) (c : Code) → unfinished_of s ≡ Some c → sta
 unfinished_only statuses.Finished c e = absurd cc
 unfinished_only (statuses.Failed d) c e = ap statuses.Failed (sym (some_is d c e))
 
-finished_stands : (s : Status) → (variant (λ _. statuses.Finished) finished_of nothing).allowed s ≡ true → first_of_status s ≡ 1
-finished_stands statuses.Finished a = refl
-finished_stands (statuses.Failed c) a = absurd cc
-
-unfinished_stands : (s : Status) → (variant statuses.Failed unfinished_of code).allowed s ≡ true → first_of_status s ≡ 2
-unfinished_stands statuses.Finished a = absurd cc
-unfinished_stands (statuses.Failed c) a = refl
-
 status_choices : (b : ℕ) (g : Grammar Status) → status_by b ≡ Some g → IsChoice first_of_status 1 b g
 status_choices b g =
-    one_of first_of_status 1 b 1 _ _ g (record { lawful = variant_lawful (λ _. statuses.Finished) finished_of nothing (λ x. refl) finished_only nothing_lawful; stands = finished_stands; within = lit≤ tt })
-    (one_of first_of_status 1 b 2 _ _ g (record { lawful = variant_lawful statuses.Failed unfinished_of code (λ x. refl) unfinished_only code_lawful; stands = unfinished_stands; within = lit≤ tt })
+    one_of first_of_status 1 b 1 _ _ g (choice first_of_status 1 1 (λ _. statuses.Finished) finished_of nothing (λ x. refl) finished_only (λ x. refl) nothing_lawful (lit≤ tt))
+    (one_of first_of_status 1 b 2 _ _ g (choice first_of_status 1 2 statuses.Failed unfinished_of code (λ x. refl) unfinished_only (λ x. refl) code_lawful (lit≤ tt))
     (none_of first_of_status 1 b g))
 
 pub status_lawful : Lawful status
@@ -149,27 +137,12 @@ mismatch_only (replies.Share share) x e = absurd cc
 mismatch_only (replies.Small total) x e = absurd cc
 mismatch_only (replies.Mismatch total check) x e = ap (λ (p : ℕ × List ℕ). replies.Mismatch p.0 p.1) (sym (some_is (total, check) x e))
 
-share_stands : (s : Reply) → (variant replies.Share share_of (bytes 16384)).allowed s ≡ true → first_of_reply s ≡ 0
-share_stands (replies.Share share) a = refl
-share_stands (replies.Small total) a = absurd cc
-share_stands (replies.Mismatch total check) a = absurd cc
-
-total_stands : (s : Reply) → (variant replies.Small total_of any_u32).allowed s ≡ true → first_of_reply s ≡ 1
-total_stands (replies.Share share) a = absurd cc
-total_stands (replies.Small total) a = refl
-total_stands (replies.Mismatch total check) a = absurd cc
-
-mismatch_stands : (s : Reply) → (variant (λ p. replies.Mismatch p.0 p.1) mismatch_of (any_u32 ⊗ checksum)).allowed s ≡ true → first_of_reply s ≡ 2
-mismatch_stands (replies.Share share) a = absurd cc
-mismatch_stands (replies.Small total) a = absurd cc
-mismatch_stands (replies.Mismatch total check) a = refl
-
-reply_choices : (b : ℕ) (g : Grammar Reply) → reply_by b ≡ Some g → IsChoice first_of_reply 16388 b g
+reply_choices : (b : ℕ) (g : Grammar Reply) → reply_by b ≡ Some g → IsChoice first_of_reply (4 + MOST_OUT) b g
 reply_choices b g =
-    one_of first_of_reply 16388 b 0 _ _ g (record { lawful = variant_lawful replies.Share share_of (bytes 16384) (λ x. refl) share_only (bytes_lawful 16384 (lit≤ tt)); stands = share_stands; within = lit≤ tt })
-    (one_of first_of_reply 16388 b 1 _ _ g (record { lawful = variant_lawful replies.Small total_of any_u32 (λ x. refl) total_only any_u32_lawful; stands = total_stands; within = lit≤ tt })
-    (one_of first_of_reply 16388 b 2 _ _ g (record { lawful = variant_lawful (λ p. replies.Mismatch p.0 p.1) mismatch_of (any_u32 ⊗ checksum) (λ x. refl) mismatch_only (then_lawful any_u32 checksum any_u32_lawful (cells_lawful 32 any_text)); stands = mismatch_stands; within = lit≤ tt })
-    (none_of first_of_reply 16388 b g)))
+    one_of first_of_reply (4 + MOST_OUT) b 0 _ _ g (choice first_of_reply (4 + MOST_OUT) 0 replies.Share share_of (bytes MOST_OUT) (λ x. refl) share_only (λ x. refl) (bytes_lawful MOST_OUT (lit≤ tt)) (lit≤ tt))
+    (one_of first_of_reply (4 + MOST_OUT) b 1 _ _ g (choice first_of_reply (4 + MOST_OUT) 1 replies.Small total_of any_u32 (λ x. refl) total_only (λ x. refl) any_u32_lawful (lit≤ tt))
+    (one_of first_of_reply (4 + MOST_OUT) b 2 _ _ g (choice first_of_reply (4 + MOST_OUT) 2 (λ p. replies.Mismatch p.0 p.1) mismatch_of (any_u32 ⊗ checksum) (λ x. refl) mismatch_only (λ x. refl) (then_lawful any_u32 checksum any_u32_lawful (cells_lawful 32 any_text)) (lit≤ tt))
+    (none_of first_of_reply (4 + MOST_OUT) b g)))
 
 pub reply_lawful : Lawful reply
-reply_lawful = by_first_lawful first_of_reply reply_by 16388 reply_choices
+reply_lawful = by_first_lawful first_of_reply reply_by (4 + MOST_OUT) reply_choices

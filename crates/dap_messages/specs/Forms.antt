@@ -1,14 +1,17 @@
 -- The forms of reports and messages, as tables of their fields.
-use Rattle.std.specs.Prelude.{ℕ, List, Option, Some, None, ◌==◌, if◌then◌else◌}
+use Rattle.std.specs.Prelude.{ℕ, ◌+◌, List, Option, Some, None, ◌==◌, if◌then◌else◌}
 use Rattle.std.specs.Int.{w32, w64}
+use Rattle.dap_bytes.specs.declared.limits.TheConstants.{LATEST_TIME}
 use Rattle.dap_messages.specs.declared.job.JobNo.{JobNo}
 use Rattle.dap_messages.specs.declared.code.Code.{Code}
 use Rattle.dap_messages.specs.declared.code.Code.TheVariants.{BatchCollected, ReportReplayed, HpkeDecryptError, VdafPrepError}
+use Rattle.dap_messages.specs.declared.body.TheConstants.{MOST_PUBLIC, MOST_HELPER, MOST_PREP}
 use Rattle.dap_messages.specs.declared.body.Half.{Half}
 use Rattle.dap_messages.specs.declared.body.Step.{Step}
 use Rattle.dap_messages.specs.declared.body.Step.TheVariants as steps
 use Rattle.dap_messages.specs.declared.body.Status.{Status}
 use Rattle.dap_messages.specs.declared.body.Status.TheVariants as statuses
+use Rattle.dap_messages.specs.declared.reply.TheConstants.{MOST_OUT}
 use Rattle.dap_messages.specs.declared.reply.Reply.{Reply}
 use Rattle.dap_messages.specs.declared.reply.Reply.TheVariants as replies
 use Rattle.dap_messages.specs.Grammar.{Grammar, number, byte, coded, cells, any_text, nothing, ◌⊗◌, shaped, variant, bytes, by_first}
@@ -29,7 +32,7 @@ any_u64 = number w64 0 18446744073709551615
 
 -- a time, or the start of a batch
 abbrev pub time : Grammar ℕ
-time = number w64 0 999999999999999999
+time = number w64 0 LATEST_TIME
 
 -- an identifier
 abbrev pub identifier : Grammar (List ℕ)
@@ -68,7 +71,7 @@ code = coded code_of byte_of
 -- time, public share, the helper's sealed share
 abbrev pub half : Grammar Half
 half = shaped (λ p. record { time = p.0; public = p.1.0; helper = p.1.1 }) (λ h. (h.time, (h.public, h.helper)))
-    (time ⊗ bytes 32000 ⊗ bytes 32000)
+    (time ⊗ bytes MOST_PUBLIC ⊗ bytes MOST_HELPER)
 
 -- what a step that goes on holds
 abbrev pub continued_of : Step → Option (List ℕ)
@@ -88,12 +91,12 @@ first_of_step (steps.Failed c) = 2
 -- 00 and a prep share or message, or 02 and a code
 abbrev pub step_by : ℕ → Option (Grammar Step)
 step_by b =
-    if b == 0 then Some (variant steps.Continued continued_of (bytes 1024)) else
+    if b == 0 then Some (variant steps.Continued continued_of (bytes MOST_PREP)) else
     (if b == 2 then Some (variant steps.Failed failed_of code) else None)
 
 -- a step by its first byte
 abbrev pub step : Grammar Step
-step = by_first first_of_step step_by 1028
+step = by_first first_of_step step_by (4 + MOST_PREP)
 
 -- that a status is finished
 abbrev pub finished_of : Status → Option (Unit {0})
@@ -149,10 +152,10 @@ first_of_reply (replies.Mismatch total check) = 2
 -- 00 and a share, 01 and a total, or 02, a total and a checksum
 abbrev pub reply_by : ℕ → Option (Grammar Reply)
 reply_by b =
-    if b == 0 then Some (variant replies.Share share_of (bytes 16384)) else
+    if b == 0 then Some (variant replies.Share share_of (bytes MOST_OUT)) else
     (if b == 1 then Some (variant replies.Small total_of any_u32) else
     (if b == 2 then Some (variant (λ p. replies.Mismatch p.0 p.1) mismatch_of (any_u32 ⊗ checksum)) else None))
 
 -- an answer by its first byte
 abbrev pub reply : Grammar Reply
-reply = by_first first_of_reply reply_by 16388
+reply = by_first first_of_reply reply_by (4 + MOST_OUT)

@@ -6,6 +6,7 @@ use Rattle.std.specs.Ordering.{nat_cmp, is_lt}
 use Rattle.std.specs.Cmp.Lexicographic.{slice_cmp}
 use Rattle.dap_bytes.specs.Cursor.{Reading, rest_of, next_bytes, next_number, past}
 use Rattle.dap_bytes.specs.Name.{is_name_char}
+use Rattle.dap_messages.specs.declared.item.TheConstants.{MOST_ITEMS}
 use Rattle.dap_messages.specs.declared.item.Tagged.{Tagged}
 
 -- how the values of a type stand in bytes: read answers the value at a place and the place behind it, or the place of the first fault; spell is a value's one spelling; allowed tells which values have one; no spelling has more than most bytes
@@ -207,13 +208,13 @@ abbrev pub allowed_items : {B : Type 0} → Grammar B → Option (List ℕ) → 
 allowed_items g last [] = true
 allowed_items g last (x ∷ xs) = (item g last).allowed x && allowed_items g (Some x.id) xs
 
--- a u16 count of 1 to 64, and that many items whose identifiers strictly ascend
+-- a u16 count of 1 to the most items, and that many items whose identifiers strictly ascend
 abbrev pub items : {B : Type 0} → Grammar B → Grammar (List (Tagged B))
 items g = record {
-  read = λ r. (number w16 1 64).read r >>= λ n. items_at g None n.0 n.1;
+  read = λ r. (number w16 1 MOST_ITEMS).read r >>= λ n. items_at g None n.0 n.1;
   spell = λ xs. to_be_bytes w16 (length xs) ++ spell_items g xs;
-  allowed = λ xs. is_between 1 64 (length xs) && allowed_items g None xs;
-  most = 2 + 64 * (16 + g.most);
+  allowed = λ xs. is_between 1 MOST_ITEMS (length xs) && allowed_items g None xs;
+  most = 2 + MOST_ITEMS * (16 + g.most);
 }
 
 -- ---- a whole input

@@ -10,32 +10,13 @@ use Rattle.std.proofs.Common.{inl, inr}
 use Rattle.std.proofs.Math.Nat.{mul-le-mul_right}
 use Rattle.std.proofs.lemmas.Nat.{be_bytes_2, be_bytes_4, be_bytes_8, from_be_bytes-to_be_bytes_2}
 use Rattle.dap_bytes.specs.Cursor.{Reading, rest_of, has_bytes, next_bytes, next_number, past}
+use Rattle.dap_messages.specs.declared.item.TheConstants.{MOST_ITEMS}
 use Rattle.dap_messages.specs.declared.item.Tagged.{Tagged}
 use Rattle.dap_messages.specs.declared.fault.ReadFault.{ReadFault}
 use Rattle.dap_messages.specs.declared.fault.ReadFault.TheVariants as faults
 use Rattle.dap_messages.specs.Spelled.{Reads, IsOnly}
+use Rattle.dap_messages.specs.Lawful.{IsInput, further, Takes, Lawful}
 use Rattle.dap_messages.specs.Grammar.{Grammar, ◌>>=◌, accepted, field, where_holds, is_between, number, byte, coded, cells, nothing, ◌⊗◌, fixed, shaped, spell_some, allowed_some, variant, sized, read_chosen, read_by, spell_chosen, allowed_chosen, by_first, is_above, item, items_at, spell_items, allowed_items, items, ended, whole}
-
--- ---- what a grammar has to keep
-
--- the input is made of bytes
-abbrev pub IsInput : Reading → Type 0
-IsInput r = (i : ℕ) → get_or r.input i 0 < 256
-
--- n places further on
-abbrev pub further : ℕ → Reading → Reading
-further n r = record { input = r.input; place = r.place + n }
-
--- new is behind the text that stands at old
-pub record Takes (old : Reading) (text : List ℕ) (new : Reading) : Type 0 where
-  pub rest : rest_of old ≡ text ++ rest_of new
-  pub moved : new ≡ further (length text) old
-
--- what is read is spelled so, what is spelled so is read, and no spelling is longer than most
-pub record Lawful {A : Type 0} (g : Grammar A) : Type 0 where
-  pub takes : (r : Reading) (x : A) (s : Reading) → IsInput r → g.read r ≡ Ok (x, s) → Takes r (g.spell x) s × (g.allowed x ≡ true)
-  pub again : (x : A) (r : Reading) (rest : List ℕ) → g.allowed x ≡ true → rest_of r ≡ g.spell x ++ rest → g.read r ≡ Ok (x, further (length (g.spell x)) r)
-  pub within : (x : A) → g.allowed x ≡ true → length (g.spell x) ≤ g.most
 
 -- ---- steps
 
@@ -418,6 +399,19 @@ one_of {A} first_of longest b first g others h here there e = go (nat_eq b first
 pub none_of : {A : Type 0} (first_of : A → ℕ) (longest b : ℕ) (h : Grammar A) → (let n : Option (Grammar A) = None in n) ≡ Some h → IsChoice first_of longest b h
 none_of first_of longest b h e = absurd cc
 
+-- where the fields of a variant keep the laws, and each of its values has the first byte, so does the variant
+pub choice : {A B : Type 0} (first_of : B → ℕ) (longest first : ℕ) (to : A → B) (from : B → Option A) (g : Grammar A)
+    → ((x : A) → from (to x) ≡ Some x) → ((b : B) (x : A) → from b ≡ Some x → to x ≡ b) → ((x : A) → first_of (to x) ≡ first)
+    → Lawful g → g.most ≤ longest → IsChoice first_of longest first (variant to from g)
+choice {A} {B} first_of longest first to from g back only begins lawful within = record {
+  lawful = variant_lawful to from g back only lawful;
+  stands = λ b a. has_first b (from b) refl a;
+  within = within;
+} where
+  has_first : (b : B) (o : Option A) → from b ≡ o → allowed_some g o ≡ true → first_of b ≡ first
+  has_first b None is a = absurd cc
+  has_first b (Some x) is a = ap first_of (sym (only b x is)) ∙ begins x
+
 -- ---- lists of items
 
 pub item_lawful : {B : Type 0} (g : Grammar B) (last : Option (List ℕ)) → Lawful g → Lawful (item g last)
@@ -467,25 +461,25 @@ items_within g lg (x ∷ xs) last a =
 pub items_lawful : {B : Type 0} (g : Grammar B) → Lawful g → Lawful (items g)
 items_lawful {B} g lg = record {
   takes = λ r xs s i e.
-      let count = number w16 1 64 in
-      let lc = number_lawful w16 1 64 wide16 (λ n h. from_be_bytes-to_be_bytes_2 n (omega arith)) in
+      let count = number w16 1 MOST_ITEMS in
+      let lc = number_lawful w16 1 MOST_ITEMS wide16 (λ n h. from_be_bytes-to_be_bytes_2 n (omega arith)) in
       let a = bind_ok (count.read r) (λ n. items_at g None n.0 n.1) (xs, s) e in
       let first = lc.takes r a.0.0 a.0.1 i a.1 in
       let second = items_take g lg a.0.0 None a.0.1 xs s (input_stays r (to_be_bytes w16 a.0.0) a.0.1 i first.0) a.2 in
-      subst (λ (n : ℕ). Takes r (to_be_bytes w16 n ++ spell_items g xs) s × ((is_between 1 64 n && allowed_items g None xs) ≡ true)) (sym second.1)
-      (Takes-then r (to_be_bytes w16 a.0.0) a.0.1 (spell_items g xs) s first.0 second.0, both_true (is_between 1 64 a.0.0) (allowed_items g None xs) first.1 second.2);
+      subst (λ (n : ℕ). Takes r (to_be_bytes w16 n ++ spell_items g xs) s × ((is_between 1 MOST_ITEMS n && allowed_items g None xs) ≡ true)) (sym second.1)
+      (Takes-then r (to_be_bytes w16 a.0.0) a.0.1 (spell_items g xs) s first.0 second.0, both_true (is_between 1 MOST_ITEMS a.0.0) (allowed_items g None xs) first.1 second.2);
   again = λ xs r rest a e.
-      let lc = number_lawful w16 1 64 wide16 (λ n h. from_be_bytes-to_be_bytes_2 n (omega arith)) in
-      let parts = and_parts (is_between 1 64 (length xs)) (allowed_items g None xs) a in
+      let lc = number_lawful w16 1 MOST_ITEMS wide16 (λ n h. from_be_bytes-to_be_bytes_2 n (omega arith)) in
+      let parts = and_parts (is_between 1 MOST_ITEMS (length xs)) (allowed_items g None xs) a in
       let size = to_be_bytes w16 (length xs) in
       let whole_is : rest_of r ≡ size ++ (spell_items g xs ++ rest) = e ∙ append_assoc size (spell_items g xs) rest in
       let first = lc.again (length xs) r (spell_items g xs ++ rest) parts.0 whole_is in
       let second = items_again g lg xs None (further (length size) r) rest parts.1 (rest_further r size (spell_items g xs ++ rest) whole_is) in
       rw first (second ∙ ap (λ (p : Reading). let z : List (Tagged B) × Reading = (xs, p) in done z) (further-then r size (spell_items g xs)));
   within = λ xs a.
-      let parts = and_parts (is_between 1 64 (length xs)) (allowed_items g None xs) a in
-      let few : length xs ≤ 64 = leb-true (length xs) 64 (and_parts (nat_le 1 (length xs)) (nat_le (length xs) 64) parts.0).1 in
-      let most : length xs * (16 + g.most) ≤ 64 * (16 + g.most) = mul-le-mul_right (16 + g.most) few in
+      let parts = and_parts (is_between 1 MOST_ITEMS (length xs)) (allowed_items g None xs) a in
+      let few : length xs ≤ MOST_ITEMS = leb-true (length xs) MOST_ITEMS (and_parts (nat_le 1 (length xs)) (nat_le (length xs) MOST_ITEMS) parts.0).1 in
+      let most : length xs * (16 + g.most) ≤ MOST_ITEMS * (16 + g.most) = mul-le-mul_right (16 + g.most) few in
       omega (arith, length-append (to_be_bytes w16 (length xs)) (spell_items g xs), items_within g lg xs None parts.1, most);
 }
 

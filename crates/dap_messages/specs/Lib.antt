@@ -1,7 +1,11 @@
+pub mod AppendLaws
 pub mod FormLaws
 pub mod Forms
 pub mod Grammar
 pub mod Items
+pub mod JobLaws
+pub mod Jobs
+pub mod Lawful
 pub mod Laws
 pub mod MessageLaws
 pub mod Messages

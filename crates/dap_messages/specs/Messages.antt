@@ -1,13 +1,16 @@
 -- Reports and messages, as tables of their fields.
-use Rattle.std.specs.Prelude.{ℕ, List, Option, Some, None, ◌==◌, if◌then◌else◌}
+use Rattle.std.specs.Prelude.{ℕ, ◌-◌, List, Option, Some, None, ◌==◌, if◌then◌else◌}
 use Rattle.std.specs.Int.{w16}
 use Rattle.dap_messages.specs.declared.job.JobNo.{JobNo}
+use Rattle.dap_messages.specs.declared.body.TheConstants.{MOST_PUBLIC, MOST_HELPER}
 use Rattle.dap_messages.specs.declared.body.Half.{Half}
 use Rattle.dap_messages.specs.declared.body.Step.{Step}
 use Rattle.dap_messages.specs.declared.body.Status.{Status}
 use Rattle.dap_messages.specs.declared.item.Tagged.{Tagged}
 use Rattle.dap_messages.specs.declared.reply.Reply.{Reply}
+use Rattle.dap_messages.specs.declared.report.TheConstants.{MOST_LEADER}
 use Rattle.dap_messages.specs.declared.report.Report.{Report}
+use Rattle.dap_messages.specs.declared.message.TheConstants.{MOST_MESSAGE}
 use Rattle.dap_messages.specs.declared.message.Message.{Message}
 use Rattle.dap_messages.specs.declared.message.Message.TheVariants.{InitReq, InitResp, ContReq, ContResp, ShareReq, ShareResp}
 use Rattle.dap_messages.specs.Grammar.{Grammar, number, ◌⊗◌, fixed, shaped, variant, bytes, name, by_first, items}
@@ -15,7 +18,7 @@ use Rattle.dap_messages.specs.Forms.{any_u32, time, identifier, checksum, job, h
 
 -- name, identifier, time, the length 0 of the extensions, public share, the leader's and the helper's sealed shares
 abbrev pub report_fields : Grammar (List ℕ × (List ℕ × (ℕ × (List ℕ × (List ℕ × List ℕ)))))
-report_fields = name ⊗ identifier ⊗ time ⊗ fixed (number w16 0 0) 0 (bytes 32000 ⊗ bytes 131072 ⊗ bytes 32000)
+report_fields = name ⊗ identifier ⊗ time ⊗ fixed (number w16 0 0) 0 (bytes MOST_PUBLIC ⊗ bytes MOST_LEADER ⊗ bytes MOST_HELPER)
 
 -- a report
 abbrev pub report : Grammar Report
@@ -120,6 +123,6 @@ message_by b =
     (if b == 5 then Some share_req else
     (if b == 6 then Some share_resp else None)))))
 
--- a message has at most 4,194,304 bytes
+-- a message, of at most so many bytes
 abbrev pub message : Grammar Message
-message = by_first first_of_message message_by 4194303
+message = by_first first_of_message message_by (MOST_MESSAGE - 1)

@@ -2,7 +2,7 @@
 
 use crate::code::Code;
 use crate::fault::ReadFault;
-use crate::fields::{cut_off, put_bytes, read_bytes, read_u64};
+use crate::fields::{are_bytes, cut_off, is_u64, put_bytes, read_bytes, read_u64};
 use crate::spelled::Spelled;
 use dap_bytes::{Bytes, Cursor, LATEST_TIME, put_u8, put_u64};
 use std::alloc::{AllocError, Global};
@@ -70,6 +70,12 @@ impl Spelled for Half {
         put_bytes(out, &self.public)?;
         put_bytes(out, &self.helper)
     }
+
+    fn is_allowed(&self) -> bool {
+        is_u64(self.time, 0, LATEST_TIME)
+            && are_bytes(&self.public, MOST_PUBLIC)
+            && are_bytes(&self.helper, MOST_HELPER)
+    }
 }
 
 impl Spelled for Step {
@@ -108,6 +114,13 @@ impl Spelled for Step {
             }
         }
     }
+
+    fn is_allowed(&self) -> bool {
+        match self {
+            Step::Continued(prep) => are_bytes(prep, MOST_PREP),
+            Step::Failed(code) => code.is_allowed(),
+        }
+    }
 }
 
 impl Spelled for Status {
@@ -138,6 +151,13 @@ impl Spelled for Status {
                 put_u8(out, 2)?;
                 code.put(out)
             }
+        }
+    }
+
+    fn is_allowed(&self) -> bool {
+        match self {
+            Status::Finished => true,
+            Status::Failed(code) => code.is_allowed(),
         }
     }
 }

@@ -1,7 +1,5 @@
 //! Why a report is not counted.
 
-ghost use Rattle.dap_messages.specs.Spelled.{Gives};
-
 use crate::fault::ReadFault;
 use crate::fields::cut_off;
 use crate::spelled::Spelled;
@@ -22,6 +20,36 @@ pub enum Code {
     VdafPrepError,
 }
 
+impl Code {
+    ghost use Rattle.std.specs.Prelude.{◌≡◌};
+    ghost use Rattle.dap_messages.specs.Forms.{byte_of, code_of};
+
+    /// Its byte: 0, 1, 4 or 5.
+    pub fn byte(&self) -> u8
+        ensures { result ≡ byte_of self.now }
+    {
+        match self {
+            Code::BatchCollected => 0,
+            Code::ReportReplayed => 1,
+            Code::HpkeDecryptError => 4,
+            Code::VdafPrepError => 5,
+        }
+    }
+
+    /// The code of a byte, if it has one.
+    pub fn of_byte(byte: u8) -> Option<Code>
+        ensures { result ≡ code_of byte }
+    {
+        match byte {
+            0 => Some(Code::BatchCollected),
+            1 => Some(Code::ReportReplayed),
+            4 => Some(Code::HpkeDecryptError),
+            5 => Some(Code::VdafPrepError),
+            _ => None,
+        }
+    }
+}
+
 impl Spelled for Code {
     ghost use Rattle.dap_messages.specs.Forms.{code};
     ghost use Rattle.dap_messages.specs.FormLaws.{code_lawful};
@@ -32,25 +60,17 @@ impl Spelled for Code {
 
     fn read(_alloc: Global, cursor: &mut Cursor<'_>) -> Result<Self, ReadFault> {
         let at = cursor.place();
-        match cursor.u8() {
-            None => Err(cut_off(cursor).into()),
-            Some(0) => Ok(Code::BatchCollected),
-            Some(1) => Ok(Code::ReportReplayed),
-            Some(4) => Ok(Code::HpkeDecryptError),
-            Some(5) => Ok(Code::VdafPrepError),
-            Some(_) => Err(ReadFault::Form { at }),
-        }
+        let Some(byte) = cursor.u8() else {
+            return Err(cut_off(cursor).into());
+        };
+        Code::of_byte(byte).ok_or(ReadFault::Form { at })
     }
 
     fn put(&self, out: &mut Vec<u8>) -> Result<(), AllocError> {
-        put_u8(
-            out,
-            match self {
-                Code::BatchCollected => 0,
-                Code::ReportReplayed => 1,
-                Code::HpkeDecryptError => 4,
-                Code::VdafPrepError => 5,
-            },
-        )
+        put_u8(out, self.byte())
+    }
+
+    fn is_allowed(&self) -> bool {
+        true
     }
 }

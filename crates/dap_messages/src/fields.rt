@@ -1,6 +1,6 @@
-//! The fields of which reports, messages and records are made: a reader for each, and what appends it. The readers of
-//! this module but `read_bytes` take no memory. After a refusal nothing is said of the cursor, and what was appended to
-//! may have a part of the field.
+//! The fields of which reports, messages and records are made: a reader for each, what appends it, and whether a value
+//! has a spelling. The readers of this module but `read_bytes` take no memory. After a refusal nothing is said of the
+//! cursor, and what was appended to may have a part of the field.
 
 ghost use Rattle.std.specs.Prelude.{◌≡◌, ◌≤◌, ◌<◌, ◌^◌, ◌++◌, ◌∷◌, length, OnOk};
 ghost use Rattle.std.specs.Int.{w16, w32, w64, to_be_bytes};
@@ -139,4 +139,46 @@ pub fn put_bytes(out: &mut Vec<u8>, bytes: &Bytes) -> Result<(), AllocError>
 {
     put_u32(out, bytes.len() as u32)?;
     out.extend_from_slice(bytes.as_slice())
+}
+
+/// Whether a number is a field of one byte from `low` to `high`, both included. It takes no memory.
+pub fn is_u8(given: u8, low: u8, high: u8) -> bool
+    ensures { result ≡ (byte low high).allowed given }
+{
+    low <= given && given <= high
+}
+
+/// The same of four bytes. It takes no memory.
+pub fn is_u32(given: u32, low: u32, high: u32) -> bool
+    ensures { result ≡ (number w32 low high).allowed given }
+{
+    low <= given && given <= high
+}
+
+/// The same of eight bytes. It takes no memory.
+pub fn is_u64(given: u64, low: u64, high: u64) -> bool
+    ensures { result ≡ (number w64 low high).allowed given }
+{
+    low <= given && given <= high
+}
+
+/// Whether they are `N` bytes, which they always are. It takes no memory.
+pub fn is_array<const N: usize>(given: &[u8; N]) -> bool
+    ensures { result ≡ (cells N any_text).allowed given.now }
+{
+    given.len() == N
+}
+
+/// Whether a name has a length of its field, which it always has. It takes no memory.
+pub fn is_name(given: &Name) -> bool
+    ensures { result ≡ name.allowed given.now }
+{
+    (1..=Name::MAX_LEN).contains(&given.as_bytes().len())
+}
+
+/// Whether there are at most so many bytes. It takes no memory.
+pub fn are_bytes(given: &Bytes, longest: u32) -> bool
+    ensures { result ≡ (bytes longest).allowed given.now }
+{
+    given.len() <= longest as usize
 }

@@ -1,7 +1,7 @@
 //! Lists of items, one for each report of a job.
 
 ghost use Rattle.std.specs.Prelude.{◌≡◌, ◌++◌, IsTrue, OnOk, None};
-ghost use Rattle.dap_messages.specs.Grammar.{cells, is_above, item, items_at};
+ghost use Rattle.dap_messages.specs.Grammar.{allowed_items, cells, is_above, item, items_at};
 ghost use Rattle.dap_messages.specs.Spelled.{Finds, Gives, Answers};
 
 use crate::fault::{Form, ReadFault};
@@ -10,6 +10,9 @@ use crate::spelled::Spelled;
 use dap_bytes::{Cursor, Id, put_u16};
 use std::alloc::{AllocError, Global};
 use std::marker::Model;
+
+/// The most reports of a job.
+pub const MOST_ITEMS: u16 = 64;
 
 /// What a message or record says of one report of a job.
 #[derive(Debug, Drop)]
@@ -29,8 +32,8 @@ impl<B> Tagged<B> {
     }
 }
 
-/// The items of a message or record: 1 to 64 where they have a spelling, with strictly ascending identifiers. Contracts
-/// see the list of them.
+/// The items of a message or record: 1 to `MOST_ITEMS` where they have a spelling, with strictly ascending identifiers.
+/// Contracts see the list of them.
 #[derive(Debug, Drop)]
 pub struct Items<B> {
     items: Vec<Tagged<B>>,
@@ -78,7 +81,7 @@ impl<B: Spelled> Spelled for Items<B> {
     ghost laws = { items_lawful B.grammar B.laws };
 
     fn read(alloc: Global, cursor: &mut Cursor<'_>) -> Result<Self, ReadFault> {
-        let count = read_u16(cursor, 1, 64)?;
+        let count = read_u16(cursor, 1, MOST_ITEMS)?;
         read_items(alloc, cursor, count)
     }
 
@@ -89,6 +92,11 @@ impl<B: Spelled> Spelled for Items<B> {
             put_item(out, one)?;
         }
         Ok(())
+    }
+
+    fn is_allowed(&self) -> bool {
+        let items = self.as_slice();
+        (1..=MOST_ITEMS as usize).contains(&items.len()) && are_allowed(items)
     }
 }
 
@@ -138,6 +146,27 @@ fn read_id(cursor: &mut Cursor<'_>, last: Option<Id>) -> Result<Id, Form>
     let mut id = [0; 16];
     id.copy_from_slice(part);
     Ok(id)
+}
+
+/// Whether the identifiers ascend and each body has a spelling.
+fn are_allowed<B: Spelled>(items: &[Tagged<B>]) -> bool
+    ensures { result ≡ allowed_items B.grammar None items.now }
+{
+    let mut last = None;
+    for one in items {
+        if !is_item(last, one) {
+            return false;
+        }
+        last = Some(one.id());
+    }
+    true
+}
+
+/// Whether the item has a spelling behind the identifier before it.
+fn is_item<B: Spelled>(last: Option<Id>, one: &Tagged<B>) -> bool
+    ensures { result ≡ (item B.grammar last).allowed one.now }
+{
+    is_above(last, &one.id) && one.body.is_allowed()
 }
 
 fn is_above(last: Option<Id>, id: &[u8]) -> bool

@@ -1,15 +1,15 @@
 //! Numbers of jobs.
 
 use crate::fault::ReadFault;
-use crate::fields::{read_u8, read_u64};
+use crate::fields::{is_u8, is_u64, read_u8, read_u64};
 use crate::spelled::Spelled;
 use dap_bytes::{Cursor, put_u8, put_u64};
 use std::alloc::{AllocError, Global};
 
 /// The number of a job: the lane whose reports it prepares, the incarnation of the leader's lane that made it (how many
-/// Open records that lane's journal had), and the lane's counter within the incarnation. Jobs are in the order of their
-/// lane, then their incarnation, then their counter.
-#[derive(Clone, Copy, Debug, PartialEq, Eq, PartialOrd, Ord)]
+/// Open records that lane's journal had), and the lane's counter within the incarnation. Two numbers are one job's where
+/// all three are the same.
+#[derive(Clone, Copy, Debug, PartialEq, Eq)]
 pub struct JobNo {
     /// The lane, from 0.
     pub lane: u8,
@@ -42,5 +42,11 @@ impl Spelled for JobNo {
         put_u8(out, self.lane)?;
         put_u64(out, self.incarnation)?;
         put_u64(out, self.counter)
+    }
+
+    fn is_allowed(&self) -> bool {
+        is_u8(self.lane, 0, u8::MAX)
+            && is_u64(self.incarnation, 0, u64::MAX)
+            && is_u64(self.counter, 0, u64::MAX)
     }
 }

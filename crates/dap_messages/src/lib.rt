@@ -6,7 +6,7 @@
 mod body;
 mod code;
 mod fault;
-pub mod fields;
+mod fields;
 mod item;
 mod job;
 mod laws;
@@ -19,13 +19,17 @@ mod spelled;
 pub use body::{Half, MOST_HELPER, MOST_PREP, MOST_PUBLIC, Status, Step};
 pub use code::Code;
 pub use fault::{Form, ReadFault};
-pub use item::{Items, Tagged};
+pub use fields::{
+    are_bytes, cut_off, is_array, is_name, is_u8, is_u32, is_u64, put_bytes, put_name, put_slice,
+    read_array, read_bytes, read_name, read_u8, read_u16, read_u32, read_u64,
+};
+pub use item::{Items, MOST_ITEMS, Tagged};
 pub use job::JobNo;
 pub use laws::{forms_are_bounded, items_ascend, spellings_are_read};
-pub use message::{Message, read_init_req};
+pub use message::{MOST_MESSAGE, Message, read_init_req};
 pub use reading::{read_message, read_report, write_message, write_report};
 pub use reply::{MOST_OUT, Reply};
-pub use report::{MOST_LEADER, Report};
+pub use report::{MOST_LEADER, MOST_REPORT, Report};
 pub use spelled::{Spelled, read_all, write_all};
 
 #[cfg(test)]

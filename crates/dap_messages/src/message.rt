@@ -7,13 +7,19 @@ ghost use Rattle.dap_messages.specs.Messages.{init_req, init_resp, cont_req, con
 
 use crate::body::{Half, Status, Step};
 use crate::fault::ReadFault;
-use crate::fields::{cut_off, put_name, put_slice, read_array, read_name, read_u32, read_u64};
+use crate::fields::{
+    cut_off, is_array, is_name, is_u32, is_u64, put_name, put_slice, read_array, read_name,
+    read_u32, read_u64,
+};
 use crate::item::Items;
 use crate::job::JobNo;
 use crate::reply::Reply;
 use crate::spelled::Spelled;
 use dap_bytes::{Cursor, LATEST_TIME, Name, put_u8, put_u32, put_u64};
 use std::alloc::{AllocError, Global};
+
+/// The most bytes of a message.
+pub const MOST_MESSAGE: usize = 4_194_304;
 
 /// A message between the two aggregators (draft-ietf-ppm-dap-02, sections 4.4 and 4.5, in this project's own bytes).
 #[derive(Debug, Drop)]
@@ -90,6 +96,27 @@ impl Spelled for Message {
             }
         }
     }
+
+    fn is_allowed(&self) -> bool {
+        match self {
+            Message::InitReq(job, name, halves) => {
+                job.is_allowed() && is_name(name) && halves.is_allowed()
+            }
+            Message::InitResp(job, steps) | Message::ContReq(job, steps) => {
+                job.is_allowed() && steps.is_allowed()
+            }
+            Message::ContResp(job, statuses) => job.is_allowed() && statuses.is_allowed(),
+            Message::ShareReq(name, start, count, checksum) => {
+                is_name(name)
+                    && is_u64(*start, 0, LATEST_TIME)
+                    && is_u32(*count, 0, u32::MAX)
+                    && is_array(checksum)
+            }
+            Message::ShareResp(name, start, reply) => {
+                is_name(name) && is_u64(*start, 0, LATEST_TIME) && reply.is_allowed()
+            }
+        }
+    }
 }
 
 /// An InitReq behind its first byte: `Form` exactly where there is none.
@@ -143,7 +170,8 @@ fn put_share_req(
     count: u32,
     checksum: &[u8; 32],
 ) -> Result<(), AllocError>
-    ensures { OnOk result (out.new.items ≡ out.old.items ++ share_req.spell (ShareReq name.now start count checksum.now)) }
+    ensures { OnOk result (out.new.items
+        ≡ out.old.items ++ share_req.spell (ShareReq name.now start count checksum.now)) }
 {
     put_name(out, name)?;
     put_u64(out, start)?;

@@ -13,11 +13,12 @@ use std::alloc::{AllocError, Global};
 /// The report that the bytes spell, all of them: `Form` with the place of the first fault exactly where there is none.
 pub fn read_report(alloc: Global, bytes: &[u8]) -> Result<Report, ReadFault>
     // What is read is spelled so.
-    ensures found { IfOk result (λ r. IsTrue (report.allowed r) × (bytes.now ≡ report.spell r)) }
+    ensures read_as_spelled { IfOk result (λ r. IsTrue (report.allowed r) × (bytes.now ≡ report.spell r)) }
     // What is spelled so is read, unless memory runs out.
-    ensures only { (r : Report) → IsTrue (report.allowed r) → bytes.now ≡ report.spell r → IsOnly r result }
+    ensures every_spelling_is_read { (r : Report) → IsTrue (report.allowed r)
+        → bytes.now ≡ report.spell r → IsOnly r result }
     // Which place it is.
-    ensures exact { Reads report bytes.now result }
+    ensures first_fault { Reads report bytes.now result }
 {
     read_all(alloc, bytes)
 }
@@ -25,11 +26,12 @@ pub fn read_report(alloc: Global, bytes: &[u8]) -> Result<Report, ReadFault>
 /// The message that the bytes spell, all of them: `Form` with the place of the first fault exactly where there is none.
 pub fn read_message(alloc: Global, bytes: &[u8]) -> Result<Message, ReadFault>
     // What is read is spelled so.
-    ensures found { IfOk result (λ m. IsTrue (message.allowed m) × (bytes.now ≡ message.spell m)) }
+    ensures read_as_spelled { IfOk result (λ m. IsTrue (message.allowed m) × (bytes.now ≡ message.spell m)) }
     // What is spelled so is read, unless memory runs out.
-    ensures only { (m : Message) → IsTrue (message.allowed m) → bytes.now ≡ message.spell m → IsOnly m result }
+    ensures every_spelling_is_read { (m : Message) → IsTrue (message.allowed m)
+        → bytes.now ≡ message.spell m → IsOnly m result }
     // Which place it is.
-    ensures exact { Reads message bytes.now result }
+    ensures first_fault { Reads message bytes.now result }
 {
     read_all(alloc, bytes)
 }

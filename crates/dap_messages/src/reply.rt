@@ -1,7 +1,9 @@
 //! The helper's answers for a batch.
 
 use crate::fault::ReadFault;
-use crate::fields::{cut_off, put_bytes, read_array, read_bytes, read_u32};
+use crate::fields::{
+    are_bytes, cut_off, is_array, is_u32, put_bytes, read_array, read_bytes, read_u32,
+};
 use crate::spelled::Spelled;
 use dap_bytes::{Bytes, Cursor, put_u8, put_u32};
 use std::alloc::{AllocError, Global};
@@ -64,6 +66,14 @@ impl Spelled for Reply {
                 put_u32(out, *total)?;
                 out.extend_from_slice(checksum)
             }
+        }
+    }
+
+    fn is_allowed(&self) -> bool {
+        match self {
+            Reply::Share(share) => are_bytes(share, MOST_OUT),
+            Reply::Small(total) => is_u32(*total, 0, u32::MAX),
+            Reply::Mismatch(total, checksum) => is_u32(*total, 0, u32::MAX) && is_array(checksum),
         }
     }
 }

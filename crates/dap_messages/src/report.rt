@@ -2,13 +2,19 @@
 
 use crate::body::{MOST_HELPER, MOST_PUBLIC};
 use crate::fault::ReadFault;
-use crate::fields::{put_bytes, put_name, read_array, read_bytes, read_name, read_u16, read_u64};
+use crate::fields::{
+    are_bytes, is_array, is_name, is_u64, put_bytes, put_name, read_array, read_bytes, read_name,
+    read_u16, read_u64,
+};
 use crate::spelled::Spelled;
 use dap_bytes::{Bytes, Cursor, Id, LATEST_TIME, Name, put_u16, put_u64};
 use std::alloc::{AllocError, Global};
 
 /// The most bytes of the leader's sealed input share.
 pub const MOST_LEADER: u32 = 131_072;
+
+/// The most bytes of a report.
+pub const MOST_REPORT: usize = 195_143;
 
 /// A client's report of one measurement: the task's name, the report's identifier and time, the public share, and the
 /// two sealed input shares.
@@ -63,5 +69,14 @@ impl Spelled for Report {
         put_bytes(out, &self.public)?;
         put_bytes(out, &self.leader)?;
         put_bytes(out, &self.helper)
+    }
+
+    fn is_allowed(&self) -> bool {
+        is_name(&self.name)
+            && is_array(&self.id)
+            && is_u64(self.time, 0, LATEST_TIME)
+            && are_bytes(&self.public, MOST_PUBLIC)
+            && are_bytes(&self.leader, MOST_LEADER)
+            && are_bytes(&self.helper, MOST_HELPER)
     }
 }

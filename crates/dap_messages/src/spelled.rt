@@ -2,7 +2,7 @@
 
 ghost use Rattle.std.specs.Prelude.{◌≡◌, ◌++◌, IsTrue, OnOk, IfOk};
 ghost use Rattle.dap_messages.specs.Grammar.{Grammar};
-ghost use Rattle.dap_messages.specs.Laws.{Lawful};
+ghost use Rattle.dap_messages.specs.Lawful.{Lawful};
 ghost use Rattle.dap_messages.specs.Spelled.{Gives, Reads, IsOnly};
 
 use crate::fault::ReadFault;
@@ -24,6 +24,10 @@ pub trait Spelled: Drop {
         requires { IsTrue (grammar.allowed self.now) }
         ensures { OnOk result (out.new.items ≡ out.old.items ++ grammar.spell self.now) };
 
+    /// Whether the value has a spelling. It takes no memory.
+    fn is_allowed(&self) -> bool
+        ensures { result ≡ grammar.allowed self.now };
+
     /// What is read is spelled so, what is spelled so is read, and spellings are bounded.
     ghost laws: { Lawful grammar };
 }
@@ -31,11 +35,12 @@ pub trait Spelled: Drop {
 /// The value that the bytes spell, all of them: `Form` with the place of the first fault exactly where there is none.
 pub fn read_all<T: Spelled>(alloc: Global, bytes: &[u8]) -> Result<T, ReadFault>
     // What is read is spelled so.
-    ensures found { IfOk result (λ x. IsTrue (T.grammar.allowed x) × (bytes.now ≡ T.grammar.spell x)) }
+    ensures read_as_spelled { IfOk result (λ x. IsTrue (T.grammar.allowed x) × (bytes.now ≡ T.grammar.spell x)) }
     // What is spelled so is read, unless memory runs out.
-    ensures only { (x : T) → IsTrue (T.grammar.allowed x) → bytes.now ≡ T.grammar.spell x → IsOnly x result }
+    ensures every_spelling_is_read { (x : T) → IsTrue (T.grammar.allowed x)
+        → bytes.now ≡ T.grammar.spell x → IsOnly x result }
     // Which place it is.
-    ensures exact { Reads T.grammar bytes.now result }
+    ensures first_fault { Reads T.grammar bytes.now result }
 {
     read_exact(alloc, bytes)
 }

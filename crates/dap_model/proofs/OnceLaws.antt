@@ -10,7 +10,7 @@ use Rattle.dap_messages.specs.Messages.{report}
 use Rattle.dap_seal.specs.Reports.{honest_report}
 use Rattle.dap_batch.specs.Group.{batch_start}
 use Rattle.vdaf_api.specs.declared.kind.Kind.{Kind}
-use Rattle.dap_tasks.proofs.DistinctLemmas.{bytes_eq-turned}
+use Rattle.dap_tasks.specs.DistinctLaws.{bytes_eq-turned}
 use Rattle.dap_tasks.specs.Judged.{is_early, is_known_as}
 use Rattle.dap_tasks.specs.Task.{PlainTask}
 use Rattle.dap_tasks.specs.declared.cause.Cause.{Cause}

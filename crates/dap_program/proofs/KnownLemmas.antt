@@ -5,7 +5,7 @@ use Rattle.std.proofs.lemmas.List.Elements.{All-cons, All-head, All-nil, All-tai
 use Rattle.std.specs.List.{All, AllByRecursion, IsDistinct, list_any}
 use Rattle.std.specs.Str.{bytes_eq}
 use Rattle.prio3_kinds.specs.Kinds.{functions_of_kind}
-use Rattle.dap_tasks.proofs.DistinctLemmas.{bytes_eq-turned}
+use Rattle.dap_tasks.specs.DistinctLaws.{bytes_eq-turned}
 use Rattle.dap_tasks.specs.Task.{PlainTask, has_name}
 use Rattle.dap_tasks.specs.Tasks.{AreDistinct}
 use Rattle.dap_script.proofs.OptionLemmas.{map_or_cases}

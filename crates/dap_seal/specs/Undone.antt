@@ -12,7 +12,7 @@ use Rattle.aes_block.specs.State.{add_round_key}
 use Rattle.aes_cmac_prg.specs.Cmac.{cmac}
 use Rattle.aes_cmac_prg.specs.Stream.{stream, byte_at}
 use Rattle.dap_batch.specs.Checksum.{xor_bytes}
-use Rattle.dap_batch.proofs.Xor.{length-xor_bytes, xor_bytes-undo}
+use Rattle.dap_batch.specs.XorLaws.{length-xor_bytes, xor_bytes-undo}
 use Rattle.dap_tasks.specs.declared.keys.SealKeys.{SealKeys}
 use Rattle.vdaf_api.specs.declared.role.Role.{Role}
 use Rattle.dap_seal.specs.declared.head.Head.{Head}

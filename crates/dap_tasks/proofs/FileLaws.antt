@@ -19,7 +19,7 @@ use Rattle.dap_tasks.specs.File.{Refusal, ◌>>=◌, of_task, task_of, tasks_aft
 use Rattle.dap_tasks.specs.Task.{PlainTask, has_name}
 use Rattle.dap_tasks.specs.TaskFile.{IsTaskTable, table_items, HasTables, IsTaskFile, RefusesFile, RefusesTask}
 use Rattle.dap_tasks.specs.Tasks.{AreDistinct}
-use Rattle.dap_tasks.proofs.DistinctLemmas.{AreDistinct-push, bytes_eq-turned}
+use Rattle.dap_tasks.specs.DistinctLaws.{AreDistinct-push, bytes_eq-turned}
 use Rattle.dap_tasks.proofs.DocumentLemmas.{read_as}
 use Rattle.dap_tasks.proofs.FieldLaws.{array_read}
 use Rattle.dap_tasks.proofs.TableLaws.{after_ok, same_Ok, task_read, task_back}

@@ -1,9 +1,9 @@
-pub mod DistinctLemmas
 pub mod DocumentLemmas
 pub mod FieldLaws
 pub mod FileLaws
 pub mod FileWidths
 pub mod ItemLemmas
+pub mod JudgedLemmas
 pub mod KeyLemmas
 pub mod KeysLemmas
 pub mod NodeWidths

@@ -13,6 +13,7 @@ use Rattle.vdaf_api.specs.Kind.{is_kind}
 use Rattle.vdaf_api.specs.declared.kind.Kind.{Kind}
 use Rattle.vdaf_api.specs.declared.kind.Kind.TheVariants.{Count, Sum, Histogram}
 use Rattle.dap_tasks.specs.Task.{PlainTask, has_name}
+use Rattle.dap_tasks.specs.declared.fields.TheConstants.{MAX_BOUND}
 use Rattle.dap_tasks.specs.declared.keys.SealKeys.{SealKeys}
 
 -- what f makes of a value that is there
@@ -35,7 +36,7 @@ number_of least greatest value = do
 abbrev pub numbers_of : Items → Option (List ℕ)
 numbers_of no_items = Some []
 numbers_of (item value items) = do
-  number ← number_of 0 9223372036854775807 value
+  number ← number_of 0 MAX_BOUND value
   numbers ← numbers_of items
   Some (number ∷ numbers)
 

@@ -4,6 +4,7 @@ use Rattle.std.specs.Option.{option_and_then}
 use Rattle.std.specs.Str.{bytes_eq, is_utf8}
 use Rattle.toml.specs.Data.{Items, no_items, item, Members, as_str, as_array, as_table, get_member}
 use Rattle.toml.specs.Parse.{parse_document}
+use Rattle.dap_bytes.specs.declared.limits.TheConstants.{GREATEST_MINIMUM, GREATEST_PRECISION, LONGEST_TASK_FILE}
 use Rattle.vdaf_api.specs.declared.kind.Kind.{Kind}
 use Rattle.vdaf_api.specs.declared.kind.Kind.TheVariants.{Count, Sum, Histogram}
 use Rattle.dap_tasks.specs.Task.{PlainTask}
@@ -51,8 +52,8 @@ abbrev pub task_of : List PlainTask → Members → Result PlainTask (List ℕ)
 task_of before table = do
   name ← field (codes "name") (new_name_of before) table
   kind ← kind_of table
-  min ← field (codes "min") (number_of 1 1000000) table
-  precision ← field (codes "precision") (number_of 1 1000000000) table
+  min ← field (codes "min") (number_of 1 GREATEST_MINIMUM) table
+  precision ← field (codes "precision") (number_of 1 GREATEST_PRECISION) table
   verify ← field (codes "verify") (octets_of 16) table
   leader ← field (codes "leader") keys_of table
   helper ← field (codes "helper") keys_of table
@@ -92,9 +93,9 @@ tables_under_task document =
     then option_and_then tables_in (option_and_then as_array (get_member (codes "task") document))
     else None
 
--- the document that at most 1,048,576 bytes are, if they are UTF-8 and TOML
+-- the document that the bytes are, if they are no more than a file may have, UTF-8 and TOML
 abbrev pub document_of : List ℕ → Option Members
-document_of bytes = if nat_le (length bytes) 1048576 && is_utf8 bytes then parse_document bytes else None
+document_of bytes = if nat_le (length bytes) LONGEST_TASK_FILE && is_utf8 bytes then parse_document bytes else None
 
 -- the tables of a file
 abbrev pub tables_of : List ℕ → Option (List Members)

@@ -2,13 +2,14 @@
 use Rattle.std.specs.Prelude.{ℕ, ◌+◌, List, Bool, false, nat_lt, if◌then◌else◌, is_some, Option}
 use Rattle.std.specs.Option.{option_map_or}
 use Rattle.std.specs.Str.{bytes_eq}
+use Rattle.dap_tasks.specs.declared.cause.TheConstants.{MOST_AHEAD}
 use Rattle.dap_tasks.specs.declared.cause.Cause.TheVariants.{Early, Conflict, Collected}
 use Rattle.dap_tasks.specs.declared.cause.Judged.{Judged}
 use Rattle.dap_tasks.specs.declared.cause.Judged.TheVariants.{Again, Barred, Added}
 
--- a moment is known, and the time is more than 300 above it
+-- a moment is known, and the time is more above it than clocks may differ
 abbrev pub is_early : Option ℕ → ℕ → Bool
-is_early moment time = option_map_or (λ m. nat_lt (m + 300) time) moment false
+is_early moment time = option_map_or (λ m. nat_lt (m + MOST_AHEAD) time) moment false
 
 -- the accepted report has these bytes
 abbrev pub is_known_as : Option (List ℕ) → List ℕ → Bool

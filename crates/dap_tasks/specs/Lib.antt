@@ -1,3 +1,4 @@
+pub mod DistinctLaws
 pub mod Fields
 pub mod File
 pub mod Judged

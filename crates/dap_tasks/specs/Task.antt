@@ -1,6 +1,7 @@
 -- A task: what is measured, under which name, in which batches, and with which keys.
 use Rattle.std.specs.Prelude.{ℕ, ◌≤◌, List, Bool}
 use Rattle.std.specs.Str.{bytes_eq}
+use Rattle.dap_bytes.specs.declared.limits.TheConstants.{GREATEST_MINIMUM, GREATEST_PRECISION}
 use Rattle.vdaf_api.specs.Kind.{IsKind}
 use Rattle.vdaf_api.specs.declared.kind.Kind.{Kind}
 use Rattle.dap_tasks.specs.declared.keys.SealKeys.{SealKeys}
@@ -20,9 +21,9 @@ pub record PlainTask : Type 0 where
 pub record AreTaskNumbers (kind : Kind) (min precision : ℕ) : Type 0 where
   pub kind_ranges : IsKind kind
   pub some_reports : 1 ≤ min
-  pub few_reports : min ≤ 1000000
+  pub few_reports : min ≤ GREATEST_MINIMUM
   pub some_time : 1 ≤ precision
-  pub little_time : precision ≤ 1000000000
+  pub little_time : precision ≤ GREATEST_PRECISION
 
 -- the task is within its ranges
 abbrev pub IsTask : PlainTask → Type 0

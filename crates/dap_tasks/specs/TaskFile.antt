@@ -5,6 +5,7 @@ use Rattle.hex.specs.Hex.{decode_sized}
 use Rattle.toml.specs.Data.{Data, string, integer, array, table, Items, no_items, item, Members, no_members, member, get_member}
 use Rattle.toml.specs.Parse.{parse_document}
 use Rattle.dap_bytes.specs.Name.{IsName}
+use Rattle.dap_bytes.specs.declared.limits.TheConstants.{GREATEST_MINIMUM, GREATEST_PRECISION, LONGEST_TASK_FILE}
 use Rattle.vdaf_api.specs.Kind.{AreBounds}
 use Rattle.vdaf_api.specs.declared.kind.Kind.{Kind}
 use Rattle.vdaf_api.specs.declared.kind.Kind.TheVariants.{Count, Sum, Histogram}
@@ -55,8 +56,8 @@ pub record IsTaskTable (members : Members) (task : PlainTask) : Type 0 where
   pub name : Holds members (codes "name") (string task.name)
   pub is_name : IsName task.name
   pub kind : HoldsKind members task.kind
-  pub min : HoldsNumber members (codes "min") 1 1000000 task.min
-  pub precision : HoldsNumber members (codes "precision") 1 1000000000 task.precision
+  pub min : HoldsNumber members (codes "min") 1 GREATEST_MINIMUM task.min
+  pub precision : HoldsNumber members (codes "precision") 1 GREATEST_PRECISION task.precision
   pub verify : HoldsOctets members (codes "verify") 16 task.verify
   pub leader : HoldsKeys members (codes "leader") task.leader
   pub helper : HoldsKeys members (codes "helper") task.helper
@@ -67,9 +68,9 @@ abbrev pub table_items : List Members → Items
 table_items [] = no_items
 table_items (members ∷ tables) = item (table members) (table_items tables)
 
--- The bytes are at most 1,048,576, in UTF-8, and TOML with the one key `task`, whose value is the array of these tables.
+-- The bytes are no more than a file may have, in UTF-8, and TOML with the one key `task`, whose value is the array of these tables.
 pub record HasTables (bytes : List ℕ) (tables : List Members) : Type 0 where
-  pub short : length bytes ≤ 1048576
+  pub short : length bytes ≤ LONGEST_TASK_FILE
   pub utf8 : IsUtf8 bytes
   pub parsed : parse_document bytes ≡ Some (member (codes "task") (array (table_items tables)) no_members)
 

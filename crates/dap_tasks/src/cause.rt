@@ -1,5 +1,8 @@
 //! Why a line is refused.
 
+/// By how much a report's time may be above the moment, in units of time, since clocks differ.
+pub const MOST_AHEAD: u64 = 300;
+
 /// Why a line of a script, or an upload, is refused.
 #[derive(Clone, Copy, Debug, PartialEq, Eq)]
 pub enum Cause {
@@ -9,7 +12,7 @@ pub enum Cause {
     Form,
     /// The measurement isn't of the task's kind, or it has no shares.
     Value,
-    /// The report's time is more than 300 units above the moment.
+    /// The report's time is more than `MOST_AHEAD` units above the moment.
     Early,
     /// The task has expired. No task has an end yet, so nothing is refused so.
     Expired,

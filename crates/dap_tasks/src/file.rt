@@ -12,18 +12,15 @@ use crate::fault::TasksFault;
 use crate::fields::array_at;
 use crate::table::{TableFault, task};
 use crate::task::Task;
-use dap_bytes::Text;
+use dap_bytes::{LONGEST_TASK_FILE, Text};
 use std::alloc::{AllocError, Global};
 use toml::{Table, Value};
-
-/// How many bytes a task file has at most.
-const MAX_FILE: usize = 1_048_576;
 
 /// The table that the bytes are, if they are TOML.
 fn document(alloc: Global, bytes: &[u8]) -> Result<Option<Table>, AllocError>
     ensures { IfOk result (λ document. option_map table_view document ≡ document_of bytes.now) }
 {
-    if bytes.len() > MAX_FILE {
+    if bytes.len() > LONGEST_TASK_FILE {
         return Ok(None);
     }
     match toml::table_from_slice(alloc, bytes) {
@@ -75,7 +72,7 @@ fn refused(alloc: Global, task: u32, field: &str) -> TasksFault
 
 /// The tasks that tables are.
 fn tasks(alloc: Global, tables: &[&Table]) -> Result<Vec<Task>, TasksFault>
-    requires { length tables.now ≤ 1048576 }
+    requires { length tables.now ≤ LONGEST_TASK_FILE }
     ensures tasks { Reads result (tasks_after [] (tables_seen tables.now)) }
     ensures distinct { IfOk result (λ tasks. AreDistinct tasks.items) }
     ensures ranges { IfOk result (λ tasks. All IsTask tasks.items) }
@@ -97,8 +94,8 @@ fn tasks(alloc: Global, tables: &[&Table]) -> Result<Vec<Task>, TasksFault>
 /// The tasks of a task file, in the file's order.
 ///
 /// Refused comes exactly where the bytes are no list of tasks: it names the first task that is refused and its first
-/// field in the order of the checks, or task 0 and the field `file` where the bytes are more than 1,048,576, or no TOML
-/// with an array of tables `task` and no other key.
+/// field in the order of the checks, or task 0 and the field `file` where the bytes are more than `LONGEST_TASK_FILE`,
+/// or no TOML with an array of tables `task` and no other key.
 pub fn read_tasks(alloc: Global, bytes: &[u8]) -> Result<Vec<Task>, TasksFault>
     ensures tasks { Reads result (tasks_of bytes.now) }
     ensures distinct { IfOk result (λ tasks. AreDistinct tasks.items) }

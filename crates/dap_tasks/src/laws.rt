@@ -1,12 +1,15 @@
 //! What is read as a file of tasks is one, and what is one is read.
 
-ghost use Rattle.std.specs.Prelude.{◌≡◌, ◌↔◌, ◌⊎◌, List, ℕ, Ok, Err};
+ghost use Rattle.std.specs.Prelude.{◌≡◌, ◌≢◌, ◌↔◌, ◌⊎◌, ◌+◌, ◌<◌, List, ℕ, Bool, true, false, Option, Some, None, Ok, Err};
 ghost use Rattle.dap_tasks.specs.File.{Refusal, tasks_of};
 ghost use Rattle.dap_tasks.specs.TaskFile.{IsTaskFile, RefusesFile, RefusesTask};
 ghost use Rattle.dap_tasks.specs.Task.{PlainTask};
+ghost use Rattle.dap_tasks.specs.Judged.{is_early, judged};
 
-/// A law: bytes are read as tasks exactly where they are at most 1,048,576 bytes of TOML with the one key `task` and an
-/// array of tables, of which each has the keys of its task with values in their ranges, and no others, and no two
+use crate::cause::{Cause, Judged, MOST_AHEAD};
+
+/// A law: bytes are read as tasks exactly where they are at most `LONGEST_TASK_FILE` bytes of TOML with the one key `task`
+/// and an array of tables, of which each has the keys of its task with values in their ranges, and no others, and no two
 /// tasks have the same name.
 pub fn task_files_are_read()
     ensures { (bytes : List ℕ) (tasks : List PlainTask) → (tasks_of bytes ≡ Ok tasks) ↔ IsTaskFile bytes tasks }
@@ -15,5 +18,24 @@ pub fn task_files_are_read()
 /// A law: bytes are refused as task 0, field `file`, exactly where no tables are those of the bytes, and as a task of a
 /// number from 1 exactly where this table is the first that is no task behind those before it.
 pub fn refusals_name_the_first_task()
-    ensures { (bytes : List ℕ) (refusal : Refusal) → (tasks_of bytes ≡ Err refusal) ↔ (RefusesFile bytes refusal ⊎ RefusesTask bytes refusal) }
+    ensures { (bytes : List ℕ) (refusal : Refusal) → (tasks_of bytes ≡ Err refusal)
+        ↔ (RefusesFile bytes refusal ⊎ RefusesTask bytes refusal) }
+{}
+
+/// A law: of all that may be said of a report that is offered the first counts: a report that was accepted with these
+/// bytes is accepted again; then one that is more than `MOST_AHEAD` above the moment is early; then one whose identifier
+/// another report has conflicts; then one of a collected batch is collected; and every other is added.
+pub fn the_first_cause_counts()
+    ensures again { (moment : Option ℕ) (collected : Bool) (bytes : List ℕ) (time : ℕ)
+        → judged (Some bytes) moment collected bytes time ≡ Judged.Again }
+    ensures early { (known : Option (List ℕ)) (moment time : ℕ) (collected : Bool) (bytes : List ℕ)
+        → known ≢ Some bytes → moment + MOST_AHEAD < time
+        → judged known (Some moment) collected bytes time ≡ Judged.Barred Cause.Early }
+    ensures conflict { (accepted bytes : List ℕ) (moment : Option ℕ) (collected : Bool) (time : ℕ)
+        → accepted ≢ bytes → is_early moment time ≡ false
+        → judged (Some accepted) moment collected bytes time ≡ Judged.Barred Cause.Conflict }
+    ensures collected { (moment : Option ℕ) (bytes : List ℕ) (time : ℕ) → is_early moment time ≡ false
+        → judged None moment true bytes time ≡ Judged.Barred Cause.Collected }
+    ensures added { (moment : Option ℕ) (bytes : List ℕ) (time : ℕ) → is_early moment time ≡ false
+        → judged None moment false bytes time ≡ Judged.Added }
 {}

@@ -14,11 +14,11 @@ mod task;
 mod tasks;
 mod trials;
 
-pub use cause::{Cause, Judged};
+pub use cause::{Cause, Judged, MOST_AHEAD};
 pub use fault::TasksFault;
 pub use file::read_tasks;
 pub use keys::SealKeys;
-pub use laws::{refusals_name_the_first_task, task_files_are_read};
+pub use laws::{refusals_name_the_first_task, task_files_are_read, the_first_cause_counts};
 pub use task::Task;
 pub use tasks::Tasks;
 pub use trials::trial;

@@ -1,40 +1,20 @@
--- Job numbers, and lists of jobs whose numbers are distinct.
+-- Lists of jobs whose numbers are distinct.
 use Rattle.std.proofs.Common.{◌≡◌, ℕ, zero, suc, ◌<◌, List, [], ◌∷◌, ◌++◌, length, get_or, map, Bool, true, false, cond, Some, None, sym, ◌∙◌, subst, refl, arith}
 use Rattle.std.specs.Prelude.{nat_eq, ◌&&◌, filter}
 use Rattle.std.proofs.lemmas.Bool.Decides.{nat_tests}
 use Rattle.dap_messages.specs.declared.job.JobNo.{JobNo}
+use Rattle.dap_messages.specs.Jobs.{is_same_job}
+use Rattle.dap_messages.specs.JobLaws.{same_job-Decides}
 use Rattle.job_leases.specs.declared.job.OpenJob.{OpenJob}
-use Rattle.job_leases.specs.Jobs.{is_same, is_job, IsNew, AreDistinct, changed, stage_of}
-
-both_true : (a b : Bool) → (a && b) ≡ true → (a ≡ true) × (b ≡ true)
-both_true true b h = (refl, h)
-both_true false b h = absurd (cc)
-
-nat_eq-is : (m n : ℕ) → nat_eq m n ≡ true → m ≡ n
-nat_eq-is m n h = grind (arith, nat_tests)
-
-nat_eq-same : (m : ℕ) → nat_eq m m ≡ true
-nat_eq-same m = grind (arith, nat_tests)
-
-pub same-is : (a b : JobNo) → is_same a b ≡ true → a ≡ b
-same-is a b h =
-    let first = both_true (nat_eq a.lane b.lane && nat_eq a.incarnation b.incarnation) (nat_eq a.counter b.counter) h in
-    let front = both_true (nat_eq a.lane b.lane) (nat_eq a.incarnation b.incarnation) first.0 in
-    let p = nat_eq-is a.lane b.lane front.0 in
-    let q = nat_eq-is a.incarnation b.incarnation front.1 in
-    let r = nat_eq-is a.counter b.counter first.1 in
-    λ i. record { lane = p i; incarnation = q i; counter = r i }
-
-pub same-itself : (a : JobNo) → is_same a a ≡ true
-same-itself a = rw (nat_eq-same a.lane, nat_eq-same a.incarnation, nat_eq-same a.counter) refl
+use Rattle.job_leases.specs.Jobs.{is_job, IsNew, AreDistinct, changed, stage_of}
 
 -- a number that isn't another's isn't so the other way round
-pub apart-turned : (a b : JobNo) → is_same a b ≡ false → is_same b a ≡ false
-apart-turned a b h = go (is_same b a) refl
+pub apart-turned : (a b : JobNo) → is_same_job a b ≡ false → is_same_job b a ≡ false
+apart-turned a b h = go (is_same_job b a) refl
   where
-    go : (t : Bool) → is_same b a ≡ t → is_same b a ≡ false
+    go : (t : Bool) → is_same_job b a ≡ t → is_same_job b a ≡ false
     go false e = e
-    go true e = absurd (let k : is_same a a ≡ false = subst (λ n. is_same a n ≡ false) (same-is b a e) h in let t : is_same a a ≡ true = same-itself a in cc)
+    go true e = absurd (let k : is_same_job a a ≡ false = subst (λ n. is_same_job a n ≡ false) ((same_job-Decides b a).0 e) h in let t : is_same_job a a ≡ true = (same_job-Decides a a).1 refl in cc)
 
 -- a job of another number than one that has it
 pub apart : (job : JobNo) (j k : OpenJob) → is_job j.job k ≡ false → is_job job k ≡ true → is_job job j ≡ false
@@ -42,7 +22,7 @@ apart job j k n t = go (is_job job j) refl
   where
     go : (b : Bool) → is_job job j ≡ b → is_job job j ≡ false
     go false e = e
-    go true e = absurd (let m : is_job job k ≡ false = subst (λ x. is_job x k ≡ false) (sym (same-is job j.job e)) n in cc)
+    go true e = absurd (let m : is_job job k ≡ false = subst (λ x. is_job x k ≡ false) (sym ((same_job-Decides job j.job).0 e)) n in cc)
 
 pub new-at : (job : JobNo) (js : List OpenJob) (i : ℕ) (d : OpenJob) → IsNew job js → i < length js → is_job job (get_or js i d) ≡ false
 new-at job [] i d n h = absurd (omega arith)
@@ -60,7 +40,7 @@ new-none job (j ∷ js) e = go (is_job job j) refl (new-none job js)
 -- a change of jobs that keeps their numbers
 pub new-map : (job : JobNo) (g : OpenJob → OpenJob) (js : List OpenJob) → ((j : OpenJob) → (g j).job ≡ j.job) → IsNew job js → IsNew job (map g js)
 new-map job g [] keeps n = tt
-new-map job g (j ∷ js) keeps n = (subst (λ k. is_same job k ≡ false) (sym (keeps j)) n.0, new-map job g js keeps n.1)
+new-map job g (j ∷ js) keeps n = (subst (λ k. is_same_job job k ≡ false) (sym (keeps j)) n.0, new-map job g js keeps n.1)
 
 pub distinct-map : (g : OpenJob → OpenJob) (js : List OpenJob) → ((j : OpenJob) → (g j).job ≡ j.job) → AreDistinct js → AreDistinct (map g js)
 distinct-map g [] keeps a = tt

@@ -9,11 +9,12 @@ use Rattle.std.proofs.lemmas.List.Folds.{find_at}
 use Rattle.std.proofs.lemmas.List.Quantifiers.{position-Some}
 use Rattle.std.proofs.lemmas.Option.{slice_get_past}
 use Rattle.dap_messages.specs.declared.job.JobNo.{JobNo}
+use Rattle.dap_messages.specs.JobLaws.{same_job-Decides}
 use Rattle.job_leases.specs.declared.job.OpenJob.{OpenJob}
 use Rattle.job_leases.specs.declared.job.Lease.{Lease}
 use Rattle.job_leases.specs.declared.job.Stage.{Stage}
 use Rattle.job_leases.specs.Jobs.{is_job, IsNew, AreDistinct, is_free, first_free, stage_of, changed, leased, moved}
-use Rattle.job_leases.proofs.Numbers.{same-is, same-itself, apart, new-at, distinct-changed, distinct-filter}
+use Rattle.job_leases.proofs.Numbers.{apart, new-at, distinct-changed, distinct-filter}
 
 find-first : (p : OpenJob → Bool) (js : List OpenJob) (i : ℕ) (d : OpenJob) → i < length js → p (get_or js i d) ≡ true → ((k : ℕ) → k < i → p (get_or js k d) ≡ false)
     → find p js ≡ Some (get_or js i d)
@@ -51,7 +52,7 @@ pub changed-at : (job : JobNo) (f : OpenJob → OpenJob) (js : List OpenJob) (i 
     → changed job f js ≡ set js i (f (get_or js i d))
 changed-at job f [] i d a h t = absurd (omega arith)
 changed-at job f (j ∷ js) zero d a h t =
-    let rest : IsNew job js = subst (λ k. IsNew k js) (sym (same-is job j.job t)) a.0 in
+    let rest : IsNew job js = subst (λ k. IsNew k js) (sym ((same_job-Decides job j.job).0 t)) a.0 in
     rw t (ap (λ l. f j ∷ l) (unchanged job f js rest))
 changed-at job f (j ∷ js) (suc i) d a h t =
     let other : is_job job j ≡ false = apart job j (get_or js i d) (new-at j.job js i d a.0 (omega arith)) t in
@@ -61,7 +62,7 @@ pub removed-at : (job : JobNo) (js : List OpenJob) (i : ℕ) (d : OpenJob) → A
     → filter (λ j. not (is_job job j)) js ≡ take i js ++ drop (suc i) js
 removed-at job [] i d a h t = absurd (omega arith)
 removed-at job (j ∷ js) zero d a h t =
-    let rest : IsNew job js = subst (λ k. IsNew k js) (sym (same-is job j.job t)) a.0 in
+    let rest : IsNew job js = subst (λ k. IsNew k js) (sym ((same_job-Decides job j.job).0 t)) a.0 in
     rw t (kept job js rest)
 removed-at job (j ∷ js) (suc i) d a h t =
     let other : is_job job j ≡ false = apart job j (get_or js i d) (new-at j.job js i d a.0 (omega arith)) t in
@@ -78,7 +79,7 @@ pub leased-at : (turn : ℕ) (lease : Lease) (js : List OpenJob) (i : ℕ) (j : 
 leased-at turn lease js i j a e is =
     let k : IsFound (is_free turn) js i j = position-found (is_free turn) js i j e in
     let f : OpenJob → OpenJob = λ x. record { job = x.job; stage = x.stage; lease = Some lease } in
-    let mine : is_job j.job (get_or js i j) ≡ true = subst (λ x. is_job j.job x ≡ true) is (same-itself j.job) in
+    let mine : is_job j.job (get_or js i j) ≡ true = subst (λ x. is_job j.job x ≡ true) is ((same_job-Decides j.job j.job).1 refl) in
     let given : set js i (f j) ≡ changed j.job f js = ap (λ x. set js i (f x)) is ∙ sym (changed-at j.job f js i j a k.within mine) in
     record {
       oldest = ap (λ (x : OpenJob). Some x.job) is ∙ sym (ap (option_map (λ (x : OpenJob). x.job)) k.found);
@@ -101,7 +102,7 @@ moved-at job js i d a e =
     λ stage. sym (changed-at job (λ _. record { job = job; stage = stage; lease = None }) js i d a k.within k.passes) in
     record {
       moved_on = on;
-      distinct_moved = λ stage. subst AreDistinct (sym (on stage)) (distinct-changed job (λ _. record { job = job; stage = stage; lease = None }) js (λ x t. same-is job x.job t) a);
+      distinct_moved = λ stage. subst AreDistinct (sym (on stage)) (distinct-changed job (λ _. record { job = job; stage = stage; lease = None }) js (λ x t. (same_job-Decides job x.job).0 t) a);
       closed = closed;
       distinct_closed = subst AreDistinct (sym closed) (distinct-filter (λ x. not (is_job job x)) js a);
     }

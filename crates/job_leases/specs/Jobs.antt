@@ -1,19 +1,17 @@
 -- Open jobs, their stages and their leases.
-use Rattle.std.specs.Prelude.{◌≡◌, ℕ, ◌+◌, List, [], ◌∷◌, map, filter, find, Bool, true, false, not, ◌&&◌, if◌then◌else◌, nat_eq, nat_lt, Option, Some, None}
+use Rattle.std.specs.Prelude.{◌≡◌, ℕ, ◌+◌, List, [], ◌∷◌, map, filter, find, Bool, true, false, not, ◌&&◌, if◌then◌else◌, nat_lt, Option, Some, None}
 use Rattle.std.specs.Option.{option_map}
 use Rattle.dap_messages.specs.declared.job.JobNo.{JobNo}
+use Rattle.dap_messages.specs.Jobs.{is_same_job}
+use Rattle.job_leases.specs.declared.job.TheConstants.Lease.{TURNS}
 use Rattle.job_leases.specs.declared.job.Stage.{Stage}
 use Rattle.job_leases.specs.declared.job.Stage.TheVariants.{AwaitInit, Combine, AwaitCont, Finish}
 use Rattle.job_leases.specs.declared.job.Lease.{Lease}
 use Rattle.job_leases.specs.declared.job.OpenJob.{OpenJob}
 
--- the two numbers are one job's
-abbrev pub is_same : JobNo → JobNo → Bool
-is_same a b = nat_eq a.lane b.lane && nat_eq a.incarnation b.incarnation && nat_eq a.counter b.counter
-
 -- the job has this number
 abbrev pub is_job : JobNo → OpenJob → Bool
-is_job job j = is_same job j.job
+is_job job j = is_same_job job j.job
 
 -- no job has this number
 abbrev pub IsNew : JobNo → List OpenJob → Type 0
@@ -32,10 +30,10 @@ waits_for_worker Combine = true
 waits_for_worker AwaitCont = false
 waits_for_worker Finish = true
 
--- the lease stands at this turn: it was given fewer than 16 turns before
+-- the lease stands at this turn: it was given fewer turns before than a lease stands for
 abbrev pub stands_at : ℕ → Option Lease → Bool
 stands_at turn None = false
-stands_at turn (Some lease) = nat_lt turn (lease.turn + 16)
+stands_at turn (Some lease) = nat_lt turn (lease.turn + TURNS)
 
 -- a worker can take the job up
 abbrev pub is_free : ℕ → OpenJob → Bool

@@ -35,6 +35,21 @@ pub struct OpenJob {
     pub lease: Option<Lease>,
 }
 
+impl Stage {
+    ghost use Rattle.std.specs.Prelude.{◌≡◌};
+    ghost use Rattle.job_leases.specs.Jobs.{waits_for_worker};
+
+    /// Whether a job at this stage waits for a worker.
+    pub fn waits_for_worker(self) -> bool
+        ensures { result ≡ waits_for_worker self }
+    {
+        match self {
+            Stage::AwaitInit | Stage::AwaitCont => false,
+            Stage::Combine | Stage::Finish => true,
+        }
+    }
+}
+
 impl Lease {
     /// For how many turns a lease stands.
     pub const TURNS: u64 = 16;
@@ -48,8 +63,7 @@ impl OpenJob {
     pub fn is_free(&self, turn: u64) -> bool
         ensures { result ≡ is_free turn self.now }
     {
-        let waits = matches!(self.stage, Stage::Combine | Stage::Finish);
-        waits
+        self.stage.waits_for_worker()
             && !self
                 .lease
                 .is_some_and(|lease| turn.saturating_sub(lease.turn) < Lease::TURNS)

@@ -68,7 +68,8 @@ impl Leases {
     /// A lease stands for `Lease::TURNS` turns from its own on. It takes no memory.
     pub fn lease(&mut self, turn: u64, worker: u8) -> Option<JobNo>
         ensures oldest { result ≡ first_free turn self.old }
-        ensures given { IfSome result (λ job. self.new ≡ leased job (record { turn = turn; worker = worker }) self.old) }
+        ensures given { IfSome result (λ job. self.new
+            ≡ leased job (record { turn = turn; worker = worker }) self.old) }
         ensures none { IfNone result (self.new ≡ self.old) }
     {
         let at = place_of_free(&self.jobs, turn)?;

@@ -15,10 +15,12 @@ use Rattle.lane_records.specs.declared.record.Record.{Record}
 use Rattle.lane_records.specs.declared.record.Record.TheVariants.{HelperOpen, Start, Commit, HelperClose}
 use Rattle.lane_records.specs.History.{Mem, IsOfLane}
 use Rattle.lane_records.specs.LegalLanes.{IsStarted, IsCommitted, Finishes, WasFinished, IsStartedFor, IsHelperClosed, HelperLaneMay}
-use Rattle.lane_records.specs.HistoryTests.{is_of_lane, same_job, same_ids}
+use Rattle.lane_records.specs.HistoryTests.{is_of_lane, same_ids}
+use Rattle.dap_messages.specs.Jobs.{is_same_job}
+use Rattle.dap_messages.specs.JobLaws.{same_job-Decides}
 use Rattle.lane_records.specs.LaneTests.{starts_job, starts_under, commits_job, is_finished, finishes, commits_report, was_finished, is_new, starts_for, helper_closes, may_start, helper_lane_may}
 use Rattle.lane_records.proofs.Members.{any_decides, one_decides, any_tells, any_told, all_tells, all_told}
-use Rattle.lane_records.proofs.Items.{same_batch, same_job-Decides, same_ids-Decides, each_id-Decides}
+use Rattle.lane_records.proofs.Items.{same_batch, same_ids-Decides, each_id-Decides}
 use Rattle.lane_records.proofs.Opens.{is_of_lane-Decides}
 use Rattle.lane_records.proofs.LeaderRules.{lane_open-Decides}
 
@@ -53,7 +55,7 @@ starts_job-tells j _ e = absurd cc
 
 starts_under-tells : (n : List ℕ) (j : JobNo) (x : Record) → starts_under n j x ≡ true → (hs : List (Tagged Half)) × (x ≡ Start j n hs)
 starts_under-tells n j (Start job name hs) e =
-    let parts = and_parts (same_job job j) (bytes_eq name n) e in
+    let parts = and_parts (is_same_job job j) (bytes_eq name n) e in
     (hs, ap (λ (i : JobNo). Start i name hs) ((same_job-Decides job j).0 parts.0) ∙ ap (λ (i : List ℕ). Start j i hs) ((bytes_eq-Decides name n).0 parts.1))
 starts_under-tells n j _ e = absurd cc
 
@@ -85,7 +87,7 @@ started-Decides j earlier =
 started_under-Decides : (n : List ℕ) (j : JobNo) (earlier : List Record)
     → Decides (list_any (starts_under n j) earlier) ((hs : List (Tagged Half)) × Mem (Start j n hs) (reverse earlier))
 started_under-Decides n j earlier =
-    one_decides (starts_under n j) (Start j n) earlier (starts_under-tells n j) (λ hs. and_from (same_job j j) (bytes_eq n n) ((same_job-Decides j j).1 refl) ((bytes_eq-Decides n n).1 refl))
+    one_decides (starts_under n j) (Start j n) earlier (starts_under-tells n j) (λ hs. and_from (is_same_job j j) (bytes_eq n n) ((same_job-Decides j j).1 refl) ((bytes_eq-Decides n n).1 refl))
 
 committed-Decides : (j : JobNo) (earlier : List Record) → Decides (list_any (commits_job j) earlier) (IsCommitted j (reverse earlier))
 committed-Decides j earlier = one_decides (commits_job j) (Commit j) earlier (commits_job-tells j) (λ outs. (same_job-Decides j j).1 refl)
@@ -131,8 +133,8 @@ starts_for-tells : (j : JobNo) (outs : List (Tagged Outcome)) (earlier : List Re
     → (n : List ℕ) × (hs : List (Tagged Half)) × (x ≡ Start j n hs) × (ids_of hs ≡ ids_of outs)
     × ((id : List ℕ) → Finishes id outs → ¬ (WasFinished n id (reverse earlier)))
 starts_for-tells j outs earlier (Start job n hs) e =
-    let p = and_parts (same_job job j && same_ids hs outs) (list_all (is_new n earlier) outs) e in
-    let q = and_parts (same_job job j) (same_ids hs outs) p.0 in
+    let p = and_parts (is_same_job job j && same_ids hs outs) (list_all (is_new n earlier) outs) e in
+    let q = and_parts (is_same_job job j) (same_ids hs outs) p.0 in
     (n, hs, ap (λ (i : JobNo). Start i n hs) ((same_job-Decides job j).0 q.0), (same_ids-Decides hs outs).0 q.1, (new-Decides n earlier outs).0 p.1)
 starts_for-tells j outs earlier _ e = absurd cc
 
@@ -143,8 +145,8 @@ started_for-Decides j outs earlier =
     (λ (n, hs, m, same, new). (
       Start j n hs,
       m,
-      and_from (same_job j j && same_ids hs outs) (list_all (is_new n earlier) outs)
-          (and_from (same_job j j) (same_ids hs outs) ((same_job-Decides j j).1 refl) ((same_ids-Decides hs outs).1 same))
+      and_from (is_same_job j j && same_ids hs outs) (list_all (is_new n earlier) outs)
+          (and_from (is_same_job j j) (same_ids hs outs) ((same_job-Decides j j).1 refl) ((same_ids-Decides hs outs).1 same))
           ((new-Decides n earlier outs).1 new),
     ))
 

@@ -3,29 +3,11 @@ use Rattle.std.proofs.Common.{true, ◌≡◌, ℕ, ◌==◌, Bool, ◌&&◌, Li
 use Rattle.std.proofs.lemmas.Bool.{and_parts, and_from, eqb-true, eq-eqb}
 use Rattle.std.proofs.lemmas.Slice.Eq.{bytes_eq-Decides, slice_eq-Decides}
 use Rattle.std.specs.List.{list_all}
-use Rattle.dap_messages.specs.declared.job.JobNo.{JobNo}
 use Rattle.dap_messages.specs.declared.item.Tagged.{Tagged}
 use Rattle.dap_messages.specs.Items.{ids_of}
 use Rattle.lane_records.specs.History.{Mem}
-use Rattle.lane_records.specs.HistoryTests.{same_job, has_id, same_ids}
+use Rattle.lane_records.specs.HistoryTests.{has_id, same_ids}
 use Rattle.lane_records.proofs.Members.{any_tells, any_told, all_tells, all_told, Mem-map, Mem-from_map}
-
-abbrev the_job : ℕ → ℕ → ℕ → JobNo
-the_job lane incarnation counter = record { lane = lane; incarnation = incarnation; counter = counter }
-
-pub same_job-Decides : (a b : JobNo) → Decides (same_job a b) (a ≡ b)
-same_job-Decides a b = (
-  λ e.
-      let parts = and_parts (a.lane == b.lane && a.incarnation == b.incarnation) (a.counter == b.counter) e in
-      let more = and_parts (a.lane == b.lane) (a.incarnation == b.incarnation) parts.0 in
-      ap (λ (n : ℕ). the_job n a.incarnation a.counter) (eqb-true a.lane b.lane more.0)
-      ∙ ap (λ (n : ℕ). the_job b.lane n a.counter) (eqb-true a.incarnation b.incarnation more.1)
-      ∙ ap (λ (n : ℕ). the_job b.lane b.incarnation n) (eqb-true a.counter b.counter parts.1),
-  λ e.
-      and_from (a.lane == b.lane && a.incarnation == b.incarnation) (a.counter == b.counter)
-      (and_from (a.lane == b.lane) (a.incarnation == b.incarnation) (eq-eqb a.lane b.lane (ap (λ (j : JobNo). j.lane) e)) (eq-eqb a.incarnation b.incarnation (ap (λ (j : JobNo). j.incarnation) e)))
-      (eq-eqb a.counter b.counter (ap (λ (j : JobNo). j.counter) e)),
-)
 
 pub same_batch : (n : List ℕ) (s : ℕ) → (bytes_eq n n && s == s) ≡ true
 same_batch n s = and_from (bytes_eq n n) (s == s) ((bytes_eq-Decides n n).1 refl) (eq-eqb s s refl)

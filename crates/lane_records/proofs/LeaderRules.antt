@@ -15,10 +15,12 @@ use Rattle.lane_records.specs.declared.record.Record.{Record}
 use Rattle.lane_records.specs.declared.record.Record.TheVariants.{LeaderOpen, Accept, Continue, Finish, LeaderClose}
 use Rattle.lane_records.specs.History.{Mem, opens, HasLanes}
 use Rattle.lane_records.specs.LegalLanes.{WasAccepted, WasContinued, IsContinued, IsContinuedWith, IsFinished, IsLeaderClosed, LeaderLaneMay}
-use Rattle.lane_records.specs.HistoryTests.{is_open, has_lanes, same_job, has_id, same_ids}
+use Rattle.lane_records.specs.HistoryTests.{is_open, has_lanes, has_id, same_ids}
+use Rattle.dap_messages.specs.Jobs.{is_same_job}
+use Rattle.dap_messages.specs.JobLaws.{same_job-Decides}
 use Rattle.lane_records.specs.LaneTests.{accepts, continues_report, continues_job, continues_with, finishes_job, leader_closes, is_waiting, may_continue, leader_lane_may}
 use Rattle.lane_records.proofs.Members.{any_decides, one_decides}
-use Rattle.lane_records.proofs.Items.{same_batch, same_job-Decides, has_id-Decides, same_ids-Decides, each_id-Decides}
+use Rattle.lane_records.proofs.Items.{same_batch, has_id-Decides, same_ids-Decides, each_id-Decides}
 use Rattle.lane_records.proofs.Opens.{opens-reverse, has_lanes-Decides, is_of_lane-Decides}
 
 -- ---- single records
@@ -42,7 +44,7 @@ continues_job-tells j _ e = absurd cc
 continues_with-tells : (j : JobNo) (outs : List (Tagged Outcome)) (x : Record) → continues_with j outs x ≡ true
     → (n : List ℕ) × (xs : List (Tagged Step)) × (x ≡ Continue n j xs) × (ids_of xs ≡ ids_of outs)
 continues_with-tells j outs (Continue n job xs) e =
-    let parts = and_parts (same_job job j) (same_ids xs outs) e in
+    let parts = and_parts (is_same_job job j) (same_ids xs outs) e in
     (n, xs, ap (λ (i : JobNo). Continue n i xs) ((same_job-Decides job j).0 parts.0), (same_ids-Decides xs outs).0 parts.1)
 continues_with-tells j outs _ e = absurd cc
 
@@ -80,7 +82,7 @@ continued_with-Decides : (j : JobNo) (outs : List (Tagged Outcome)) (earlier : L
 continued_with-Decides j outs earlier =
     any_decides (continues_with j outs) earlier
     (λ x m t. let h = continues_with-tells j outs x t in (h.0, h.1, subst (λ (z : Record). Mem z (reverse earlier)) h.2 m, h.3))
-    (λ (n, xs, m, same). (Continue n j xs, m, and_from (same_job j j) (same_ids xs outs) ((same_job-Decides j j).1 refl) ((same_ids-Decides xs outs).1 same)))
+    (λ (n, xs, m, same). (Continue n j xs, m, and_from (is_same_job j j) (same_ids xs outs) ((same_job-Decides j j).1 refl) ((same_ids-Decides xs outs).1 same)))
 
 finished-Decides : (j : JobNo) (earlier : List Record) → Decides (list_any (finishes_job j) earlier) (IsFinished j (reverse earlier))
 finished-Decides j earlier = one_decides (finishes_job j) (Finish j) earlier (finishes_job-tells j) (λ outs. (same_job-Decides j j).1 refl)

@@ -1,5 +1,6 @@
 -- What a front's record of an answer holds, as tables of its fields.
 use Rattle.dap_messages.specs.Grammar.{Grammar, byte, ◌⊗◌, fixed, shaped, bytes, name}
+use Rattle.dap_messages.specs.declared.reply.TheConstants.{MOST_OUT}
 use Rattle.dap_messages.specs.Forms.{any_u32, time, checksum, reply}
 use Rattle.lane_records.specs.declared.batch.Answered.{Answered}
 use Rattle.lane_records.specs.declared.batch.Request.{Request}
@@ -9,7 +10,7 @@ use Rattle.lane_records.specs.declared.batch.Response.{Response}
 abbrev pub answered : Grammar Answered
 answered =
     shaped (λ p. record { count = p.0; rejected = p.1.0; leader = p.1.1.0; helper = p.1.1.1 }) (λ a. (a.count, (a.rejected, (a.leader, a.helper))))
-    (any_u32 ⊗ any_u32 ⊗ bytes 16384 ⊗ bytes 16384)
+    (any_u32 ⊗ any_u32 ⊗ bytes MOST_OUT ⊗ bytes MOST_OUT)
 
 -- the bytes of a ShareReq
 abbrev pub request : Grammar Request

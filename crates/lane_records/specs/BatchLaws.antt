@@ -3,7 +3,9 @@ use Rattle.std.proofs.Common.{◌≡◌, ℕ, true, refl, arith, lit≤}
 use Rattle.std.specs.Prelude.{nat_le}
 use Rattle.std.proofs.lemmas.Bool.{leb-true}
 use Rattle.dap_messages.specs.Grammar.{byte, any_text, ◌⊗◌, fixed, bytes, name}
-use Rattle.dap_messages.specs.Laws.{Lawful, byte_lawful, cells_lawful, then_lawful, fixed_lawful, shaped_lawful, and_parts}
+use Rattle.dap_messages.specs.Lawful.{Lawful}
+use Rattle.dap_messages.specs.Laws.{byte_lawful, cells_lawful, then_lawful, fixed_lawful, shaped_lawful, and_parts}
+use Rattle.dap_messages.specs.declared.reply.TheConstants.{MOST_OUT}
 use Rattle.dap_messages.specs.Forms.{any_u32, time, checksum, reply}
 use Rattle.dap_messages.specs.FormLaws.{any_u32_lawful, time_lawful, bytes_lawful, name_lawful, reply_lawful}
 use Rattle.lane_records.specs.Batch.{answered, request, response}
@@ -16,10 +18,10 @@ only_byte k n a =
 
 pub answered_lawful : Lawful answered
 answered_lawful =
-    shaped_lawful _ _ (any_u32 ⊗ any_u32 ⊗ bytes 16384 ⊗ bytes 16384) (λ p. refl) (λ a. refl)
-    (then_lawful any_u32 (any_u32 ⊗ bytes 16384 ⊗ bytes 16384) any_u32_lawful
-    (then_lawful any_u32 (bytes 16384 ⊗ bytes 16384) any_u32_lawful
-    (then_lawful (bytes 16384) (bytes 16384) (bytes_lawful 16384 (lit≤ tt)) (bytes_lawful 16384 (lit≤ tt)))))
+    shaped_lawful _ _ (any_u32 ⊗ any_u32 ⊗ bytes MOST_OUT ⊗ bytes MOST_OUT) (λ p. refl) (λ a. refl)
+    (then_lawful any_u32 (any_u32 ⊗ bytes MOST_OUT ⊗ bytes MOST_OUT) any_u32_lawful
+    (then_lawful any_u32 (bytes MOST_OUT ⊗ bytes MOST_OUT) any_u32_lawful
+    (then_lawful (bytes MOST_OUT) (bytes MOST_OUT) (bytes_lawful MOST_OUT (lit≤ tt)) (bytes_lawful MOST_OUT (lit≤ tt)))))
 
 pub request_lawful : Lawful request
 request_lawful =

@@ -7,7 +7,8 @@ use Rattle.std.proofs.lemmas.List.{length-append}
 use Rattle.std.proofs.lemmas.List.Concat.{flat_map-cons}
 use Rattle.dap_bytes.specs.Cursor.{Reading, rest_of}
 use Rattle.dap_messages.specs.Grammar.{Grammar, ◌>>=◌, is_between, byte}
-use Rattle.dap_messages.specs.Laws.{Lawful, IsInput, Takes, Takes-then, Takes-nothing, input_stays, further, further-then, rest_further, bind_ok, done, ok_is, and_parts, both_true, byte_lawful}
+use Rattle.dap_messages.specs.Lawful.{Lawful, IsInput, Takes, further}
+use Rattle.dap_messages.specs.Laws.{Takes-then, Takes-nothing, input_stays, further-then, rest_further, bind_ok, done, ok_is, and_parts, both_true, byte_lawful}
 use Rattle.dap_messages.specs.Forms.{any_u64}
 use Rattle.dap_messages.specs.FormLaws.{u64_lawful}
 use Rattle.lane_records.specs.Bounds.{passed, restricted, is_over, bound, bounds_at, spell_bounds, allowed_bounds, bounds}

@@ -2,8 +2,9 @@
 use Rattle.std.specs.Prelude.{◌≡◌, ℕ, suc, ◌≤◌, ◌⊎◌, List, [], ◌∷◌, Option, Some, None}
 use Rattle.std.specs.Option.{option_or}
 use Rattle.dap_batch.specs.Group.{lane_number}
+use Rattle.lane_records.specs.declared.place.TheConstants.{MOST_LANES}
 use Rattle.lane_records.specs.declared.record.Record.{Record}
-use Rattle.lane_records.specs.declared.record.Record.TheVariants.{LeaderOpen, HelperOpen, LeaderFrontOpen, HelperFrontOpen}
+use Rattle.lane_records.specs.declared.record.Record.TheVariants.{LeaderOpen, Accept, Continue, Finish, LeaderClose, HelperOpen, Start, Commit, HelperClose, LeaderFrontOpen, LeaderTask, Ask, LeaderAnswer, HelperFrontOpen, HelperTask, HelperAnswer}
 
 -- ---- lists
 
@@ -25,7 +26,18 @@ lanes_in (LeaderOpen lanes lane) = Some lanes
 lanes_in (HelperOpen lanes lane) = Some lanes
 lanes_in (LeaderFrontOpen lanes) = Some lanes
 lanes_in (HelperFrontOpen lanes) = Some lanes
-lanes_in _ = None
+lanes_in (Accept r) = None
+lanes_in (Continue n j xs) = None
+lanes_in (Finish j outs) = None
+lanes_in (LeaderClose n s c) = None
+lanes_in (Start j n hs) = None
+lanes_in (Commit j outs) = None
+lanes_in (HelperClose n s c) = None
+lanes_in (LeaderTask t) = None
+lanes_in (Ask n s) = None
+lanes_in (LeaderAnswer n s a) = None
+lanes_in (HelperTask t) = None
+lanes_in (HelperAnswer q a) = None
 
 -- one more where there is a value
 abbrev pub count_some : {A : Type 0} → Option A → ℕ → ℕ
@@ -37,9 +49,9 @@ abbrev pub opens : List Record → ℕ
 opens [] = 0
 opens (x ∷ old) = count_some (lanes_in x) (opens old)
 
--- 1 to 16 lanes, as in each Open before
+-- at least one lane and no more than the most, as in each Open before
 abbrev pub HasLanes : ℕ → List Record → Type 0
-HasLanes lanes old = (1 ≤ lanes) × (lanes ≤ 16) × ((x : Record) (n : ℕ) → Mem x old → lanes_in x ≡ Some n → n ≡ lanes)
+HasLanes lanes old = (1 ≤ lanes) × (lanes ≤ MOST_LANES) × ((x : Record) (n : ℕ) → Mem x old → lanes_in x ≡ Some n → n ≡ lanes)
 
 -- among the lanes that an Open before names, the identifier's is this one
 abbrev pub IsOfLane : ℕ → List ℕ → List Record → Type 0

@@ -4,9 +4,9 @@ use Rattle.std.specs.List.{list_any, list_all}
 use Rattle.std.specs.Cmp.Lexicographic.{pointwise}
 use Rattle.std.specs.Str.{bytes_eq}
 use Rattle.dap_batch.specs.Group.{lane_number}
-use Rattle.dap_messages.specs.declared.job.JobNo.{JobNo}
 use Rattle.dap_messages.specs.declared.item.Tagged.{Tagged}
 use Rattle.dap_messages.specs.Items.{ids_of}
+use Rattle.lane_records.specs.declared.place.TheConstants.{MOST_LANES}
 use Rattle.lane_records.specs.declared.record.Record.{Record}
 use Rattle.lane_records.specs.History.{lanes_in}
 
@@ -21,9 +21,9 @@ abbrev pub is_none_but : ℕ → Option ℕ → Bool
 is_none_but lanes None = true
 is_none_but lanes (Some n) = n == lanes
 
--- 1 to 16 lanes, as in each Open before
+-- at least one lane and no more than the most, as in each Open before
 abbrev pub has_lanes : ℕ → List Record → Bool
-has_lanes lanes earlier = nat_le 1 lanes && nat_le lanes 16 && list_all (λ x. is_none_but lanes (lanes_in x)) earlier
+has_lanes lanes earlier = nat_le 1 lanes && nat_le lanes MOST_LANES && list_all (λ x. is_none_but lanes (lanes_in x)) earlier
 
 -- a number of lanes among which the identifier's is this one
 abbrev pub puts_into : ℕ → List ℕ → Option ℕ → Bool
@@ -34,11 +34,7 @@ puts_into lane id (Some lanes) = nat_lt 0 lanes && lane_number id lanes == lane
 abbrev pub is_of_lane : ℕ → List ℕ → List Record → Bool
 is_of_lane lane id earlier = list_any (λ x. puts_into lane id (lanes_in x)) earlier
 
--- ---- jobs and items
-
--- the two numbers are one job's
-abbrev pub same_job : JobNo → JobNo → Bool
-same_job a b = a.lane == b.lane && a.incarnation == b.incarnation && a.counter == b.counter
+-- ---- items
 
 -- the identifier is one of these items'
 abbrev pub has_id : {B : Type 0} → List ℕ → List (Tagged B) → Bool

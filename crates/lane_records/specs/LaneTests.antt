@@ -10,7 +10,8 @@ use Rattle.lane_records.specs.declared.outcome.Outcome.{Outcome}
 use Rattle.lane_records.specs.declared.outcome.Outcome.TheVariants.{Finished, Failed}
 use Rattle.lane_records.specs.declared.record.Record.{Record}
 use Rattle.lane_records.specs.declared.record.Record.TheVariants.{LeaderOpen, Accept, Continue, Finish, LeaderClose, HelperOpen, Start, Commit, HelperClose}
-use Rattle.lane_records.specs.HistoryTests.{is_open, has_lanes, is_of_lane, same_job, has_id, same_ids}
+use Rattle.lane_records.specs.HistoryTests.{is_open, has_lanes, is_of_lane, has_id, same_ids}
+use Rattle.dap_messages.specs.Jobs.{is_same_job}
 
 -- ---- leader lanes
 
@@ -26,17 +27,17 @@ continues_report n id _ = false
 
 -- the job's Continue
 abbrev pub continues_job : JobNo → Record → Bool
-continues_job j (Continue name job xs) = same_job job j
+continues_job j (Continue name job xs) = is_same_job job j
 continues_job j _ = false
 
 -- the job's Continue, with the identifiers of these outcomes
 abbrev pub continues_with : JobNo → List (Tagged Outcome) → Record → Bool
-continues_with j outs (Continue name job xs) = same_job job j && same_ids xs outs
+continues_with j outs (Continue name job xs) = is_same_job job j && same_ids xs outs
 continues_with j outs _ = false
 
 -- the job's Finish
 abbrev pub finishes_job : JobNo → Record → Bool
-finishes_job j (Finish job outs) = same_job job j
+finishes_job j (Finish job outs) = is_same_job job j
 finishes_job j _ = false
 
 -- the Close of the batch of this name and start in a leader's lane
@@ -67,17 +68,17 @@ leader_lane_may lane _ earlier = false
 
 -- the job's Start
 abbrev pub starts_job : JobNo → Record → Bool
-starts_job j (Start job name hs) = same_job job j
+starts_job j (Start job name hs) = is_same_job job j
 starts_job j _ = false
 
 -- the job's Start, under this name
 abbrev pub starts_under : List ℕ → JobNo → Record → Bool
-starts_under n j (Start job name hs) = same_job job j && bytes_eq name n
+starts_under n j (Start job name hs) = is_same_job job j && bytes_eq name n
 starts_under n j _ = false
 
 -- the job's Commit
 abbrev pub commits_job : JobNo → Record → Bool
-commits_job j (Commit job outs) = same_job job j
+commits_job j (Commit job outs) = is_same_job job j
 commits_job j _ = false
 
 -- the outcome is finished
@@ -104,7 +105,7 @@ is_new n earlier x = not (is_finished x.body && was_finished n x.id earlier)
 
 -- the job's Start with the identifiers of these outcomes, of which none is that of a report which was finished before
 abbrev pub starts_for : JobNo → List (Tagged Outcome) → List Record → Record → Bool
-starts_for j outs earlier (Start job name hs) = same_job job j && same_ids hs outs && list_all (is_new name earlier) outs
+starts_for j outs earlier (Start job name hs) = is_same_job job j && same_ids hs outs && list_all (is_new name earlier) outs
 starts_for j outs earlier _ = false
 
 -- the Close of the batch of this name and start in a helper's lane

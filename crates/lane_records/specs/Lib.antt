@@ -15,4 +15,3 @@ pub mod RecordLaws
 pub mod Records
 pub mod Stored
 pub mod StoredLaws
-pub mod Variants

@@ -1,16 +1,18 @@
 -- Lemmas: the records of journals keep the laws of grammars.
-use Rattle.std.proofs.Common.{◌≡◌, ℕ, List, Some, refl, sym, ap, lit≤}
+use Rattle.std.proofs.Common.{◌≡◌, ℕ, ◌-◌, List, Some, refl, sym, ap, lit≤}
 use Rattle.dap_messages.specs.declared.job.JobNo.{JobNo}
 use Rattle.dap_messages.specs.declared.body.Half.{Half}
 use Rattle.dap_messages.specs.declared.body.Step.{Step}
 use Rattle.dap_messages.specs.declared.item.Tagged.{Tagged}
 use Rattle.dap_messages.specs.declared.report.Report.{Report}
 use Rattle.dap_messages.specs.Grammar.{Grammar, byte, ◌⊗◌, fixed, name, items}
-use Rattle.dap_messages.specs.Laws.{Lawful, byte_lawful, then_lawful, fixed_lawful, by_first_lawful, items_lawful, IsChoice, one_of, none_of, some_is}
+use Rattle.dap_messages.specs.Lawful.{Lawful}
+use Rattle.dap_messages.specs.Laws.{byte_lawful, then_lawful, fixed_lawful, by_first_lawful, items_lawful, IsChoice, choice, one_of, none_of, some_is}
 use Rattle.dap_messages.specs.Forms.{any_u8, time, job, half, step}
 use Rattle.dap_messages.specs.FormLaws.{time_lawful, name_lawful, job_lawful, half_lawful, step_lawful}
 use Rattle.dap_messages.specs.Messages.{report}
 use Rattle.dap_messages.specs.MessageLaws.{report_lawful}
+use Rattle.lane_records.specs.declared.laws.TheConstants.{MOST_RECORD}
 use Rattle.lane_records.specs.declared.outcome.Outcome.{Outcome}
 use Rattle.lane_records.specs.declared.closed.Closed.{Closed}
 use Rattle.lane_records.specs.declared.stored.StoredTask.{StoredTask}
@@ -24,7 +26,6 @@ use Rattle.lane_records.specs.BatchLaws.{only_byte, answered_lawful, request_law
 use Rattle.lane_records.specs.Stored.{outcome, closed, stored}
 use Rattle.lane_records.specs.StoredLaws.{outcome_lawful, closed_lawful, stored_lawful}
 use Rattle.lane_records.specs.Records.{lane_open, front_open, continue_fields, start_fields, outcomes, close_fields, ask_fields, answer_fields, exchange, leader_open_of, leader_open, accept_of, accept, continue_of, continue_, finish_of, finish, leader_close_of, leader_close, helper_open_of, helper_open, start_of, start, commit_of, commit, helper_close_of, helper_close, leader_front_open_of, leader_front_open, leader_task_of, leader_task, ask_of, ask, leader_answer_of, leader_answer, helper_front_open_of, helper_front_open, helper_task_of, helper_task, helper_answer_of, helper_answer, first_of_record, record_by, record_}
-use Rattle.lane_records.specs.Variants.{choice}
 
 -- ---- fields
 
@@ -128,25 +129,25 @@ helper_answer_only : (y : Record) (x : Request × Response) → helper_answer_of
 helper_answer_only (HelperAnswer q a) x e = ap (λ (p : Request × Response). HelperAnswer p.0 p.1) (sym (some_is (q, a) x e))
 helper_answer_only _ x e = absurd cc
 
-record_choices : (b : ℕ) (g : Grammar Record) → record_by b ≡ Some g → IsChoice first_of_record 4098101 b g
+record_choices : (b : ℕ) (g : Grammar Record) → record_by b ≡ Some g → IsChoice first_of_record (MOST_RECORD - 1) b g
 record_choices b g =
-    one_of first_of_record 4098101 b 1 leader_open _ g (choice first_of_record 4098101 1 (λ p. LeaderOpen p.0 p.1) leader_open_of lane_open (λ x. refl) leader_open_only (λ x. refl) lane_open_lawful (lit≤ tt))
-    (one_of first_of_record 4098101 b 2 accept _ g (choice first_of_record 4098101 2 Accept accept_of report (λ x. refl) accept_only (λ x. refl) report_lawful (lit≤ tt))
-    (one_of first_of_record 4098101 b 3 continue_ _ g (choice first_of_record 4098101 3 (λ p. Continue p.0 p.1.0 p.1.1) continue_of continue_fields (λ x. refl) continue_only (λ x. refl) continue_fields_lawful (lit≤ tt))
-    (one_of first_of_record 4098101 b 4 finish _ g (choice first_of_record 4098101 4 (λ p. Finish p.0 p.1) finish_of outcomes (λ x. refl) finish_only (λ x. refl) outcomes_lawful (lit≤ tt))
-    (one_of first_of_record 4098101 b 5 leader_close _ g (choice first_of_record 4098101 5 (λ p. LeaderClose p.0 p.1.0 p.1.1) leader_close_of close_fields (λ x. refl) leader_close_only (λ x. refl) close_fields_lawful (lit≤ tt))
-    (one_of first_of_record 4098101 b 17 helper_open _ g (choice first_of_record 4098101 17 (λ p. HelperOpen p.0 p.1) helper_open_of lane_open (λ x. refl) helper_open_only (λ x. refl) lane_open_lawful (lit≤ tt))
-    (one_of first_of_record 4098101 b 18 start _ g (choice first_of_record 4098101 18 (λ p. Start p.0 p.1.0 p.1.1) start_of start_fields (λ x. refl) start_only (λ x. refl) start_fields_lawful (lit≤ tt))
-    (one_of first_of_record 4098101 b 19 commit _ g (choice first_of_record 4098101 19 (λ p. Commit p.0 p.1) commit_of outcomes (λ x. refl) commit_only (λ x. refl) outcomes_lawful (lit≤ tt))
-    (one_of first_of_record 4098101 b 20 helper_close _ g (choice first_of_record 4098101 20 (λ p. HelperClose p.0 p.1.0 p.1.1) helper_close_of close_fields (λ x. refl) helper_close_only (λ x. refl) close_fields_lawful (lit≤ tt))
-    (one_of first_of_record 4098101 b 33 leader_front_open _ g (choice first_of_record 4098101 33 LeaderFrontOpen leader_front_open_of front_open (λ x. refl) leader_front_open_only (λ x. refl) front_open_lawful (lit≤ tt))
-    (one_of first_of_record 4098101 b 34 leader_task _ g (choice first_of_record 4098101 34 LeaderTask leader_task_of stored (λ x. refl) leader_task_only (λ x. refl) stored_lawful (lit≤ tt))
-    (one_of first_of_record 4098101 b 35 ask _ g (choice first_of_record 4098101 35 (λ p. Ask p.0 p.1) ask_of ask_fields (λ x. refl) ask_only (λ x. refl) ask_fields_lawful (lit≤ tt))
-    (one_of first_of_record 4098101 b 36 leader_answer _ g (choice first_of_record 4098101 36 (λ p. LeaderAnswer p.0 p.1.0 p.1.1) leader_answer_of answer_fields (λ x. refl) leader_answer_only (λ x. refl) answer_fields_lawful (lit≤ tt))
-    (one_of first_of_record 4098101 b 49 helper_front_open _ g (choice first_of_record 4098101 49 HelperFrontOpen helper_front_open_of front_open (λ x. refl) helper_front_open_only (λ x. refl) front_open_lawful (lit≤ tt))
-    (one_of first_of_record 4098101 b 50 helper_task _ g (choice first_of_record 4098101 50 HelperTask helper_task_of stored (λ x. refl) helper_task_only (λ x. refl) stored_lawful (lit≤ tt))
-    (one_of first_of_record 4098101 b 52 helper_answer _ g (choice first_of_record 4098101 52 (λ p. HelperAnswer p.0 p.1) helper_answer_of exchange (λ x. refl) helper_answer_only (λ x. refl) exchange_lawful (lit≤ tt))
-    (none_of first_of_record 4098101 b g))))))))))))))))
+    one_of first_of_record (MOST_RECORD - 1) b 1 leader_open _ g (choice first_of_record (MOST_RECORD - 1) 1 (λ p. LeaderOpen p.0 p.1) leader_open_of lane_open (λ x. refl) leader_open_only (λ x. refl) lane_open_lawful (lit≤ tt))
+    (one_of first_of_record (MOST_RECORD - 1) b 2 accept _ g (choice first_of_record (MOST_RECORD - 1) 2 Accept accept_of report (λ x. refl) accept_only (λ x. refl) report_lawful (lit≤ tt))
+    (one_of first_of_record (MOST_RECORD - 1) b 3 continue_ _ g (choice first_of_record (MOST_RECORD - 1) 3 (λ p. Continue p.0 p.1.0 p.1.1) continue_of continue_fields (λ x. refl) continue_only (λ x. refl) continue_fields_lawful (lit≤ tt))
+    (one_of first_of_record (MOST_RECORD - 1) b 4 finish _ g (choice first_of_record (MOST_RECORD - 1) 4 (λ p. Finish p.0 p.1) finish_of outcomes (λ x. refl) finish_only (λ x. refl) outcomes_lawful (lit≤ tt))
+    (one_of first_of_record (MOST_RECORD - 1) b 5 leader_close _ g (choice first_of_record (MOST_RECORD - 1) 5 (λ p. LeaderClose p.0 p.1.0 p.1.1) leader_close_of close_fields (λ x. refl) leader_close_only (λ x. refl) close_fields_lawful (lit≤ tt))
+    (one_of first_of_record (MOST_RECORD - 1) b 17 helper_open _ g (choice first_of_record (MOST_RECORD - 1) 17 (λ p. HelperOpen p.0 p.1) helper_open_of lane_open (λ x. refl) helper_open_only (λ x. refl) lane_open_lawful (lit≤ tt))
+    (one_of first_of_record (MOST_RECORD - 1) b 18 start _ g (choice first_of_record (MOST_RECORD - 1) 18 (λ p. Start p.0 p.1.0 p.1.1) start_of start_fields (λ x. refl) start_only (λ x. refl) start_fields_lawful (lit≤ tt))
+    (one_of first_of_record (MOST_RECORD - 1) b 19 commit _ g (choice first_of_record (MOST_RECORD - 1) 19 (λ p. Commit p.0 p.1) commit_of outcomes (λ x. refl) commit_only (λ x. refl) outcomes_lawful (lit≤ tt))
+    (one_of first_of_record (MOST_RECORD - 1) b 20 helper_close _ g (choice first_of_record (MOST_RECORD - 1) 20 (λ p. HelperClose p.0 p.1.0 p.1.1) helper_close_of close_fields (λ x. refl) helper_close_only (λ x. refl) close_fields_lawful (lit≤ tt))
+    (one_of first_of_record (MOST_RECORD - 1) b 33 leader_front_open _ g (choice first_of_record (MOST_RECORD - 1) 33 LeaderFrontOpen leader_front_open_of front_open (λ x. refl) leader_front_open_only (λ x. refl) front_open_lawful (lit≤ tt))
+    (one_of first_of_record (MOST_RECORD - 1) b 34 leader_task _ g (choice first_of_record (MOST_RECORD - 1) 34 LeaderTask leader_task_of stored (λ x. refl) leader_task_only (λ x. refl) stored_lawful (lit≤ tt))
+    (one_of first_of_record (MOST_RECORD - 1) b 35 ask _ g (choice first_of_record (MOST_RECORD - 1) 35 (λ p. Ask p.0 p.1) ask_of ask_fields (λ x. refl) ask_only (λ x. refl) ask_fields_lawful (lit≤ tt))
+    (one_of first_of_record (MOST_RECORD - 1) b 36 leader_answer _ g (choice first_of_record (MOST_RECORD - 1) 36 (λ p. LeaderAnswer p.0 p.1.0 p.1.1) leader_answer_of answer_fields (λ x. refl) leader_answer_only (λ x. refl) answer_fields_lawful (lit≤ tt))
+    (one_of first_of_record (MOST_RECORD - 1) b 49 helper_front_open _ g (choice first_of_record (MOST_RECORD - 1) 49 HelperFrontOpen helper_front_open_of front_open (λ x. refl) helper_front_open_only (λ x. refl) front_open_lawful (lit≤ tt))
+    (one_of first_of_record (MOST_RECORD - 1) b 50 helper_task _ g (choice first_of_record (MOST_RECORD - 1) 50 HelperTask helper_task_of stored (λ x. refl) helper_task_only (λ x. refl) stored_lawful (lit≤ tt))
+    (one_of first_of_record (MOST_RECORD - 1) b 52 helper_answer _ g (choice first_of_record (MOST_RECORD - 1) 52 (λ p. HelperAnswer p.0 p.1) helper_answer_of exchange (λ x. refl) helper_answer_only (λ x. refl) exchange_lawful (lit≤ tt))
+    (none_of first_of_record (MOST_RECORD - 1) b g))))))))))))))))
 
 pub record_lawful : Lawful record_
-record_lawful = by_first_lawful first_of_record record_by 4098101 record_choices
+record_lawful = by_first_lawful first_of_record record_by (MOST_RECORD - 1) record_choices

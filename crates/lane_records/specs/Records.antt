@@ -1,5 +1,5 @@
 -- The records of journals, as a table of their fields.
-use Rattle.std.specs.Prelude.{ℕ, List, Option, Some, None, ◌==◌, if◌then◌else◌}
+use Rattle.std.specs.Prelude.{ℕ, ◌-◌, List, Option, Some, None, ◌==◌, if◌then◌else◌}
 use Rattle.dap_messages.specs.declared.job.JobNo.{JobNo}
 use Rattle.dap_messages.specs.declared.body.Half.{Half}
 use Rattle.dap_messages.specs.declared.body.Step.{Step}
@@ -8,6 +8,7 @@ use Rattle.dap_messages.specs.declared.report.Report.{Report}
 use Rattle.dap_messages.specs.Grammar.{Grammar, byte, ◌⊗◌, fixed, variant, name, by_first, items}
 use Rattle.dap_messages.specs.Forms.{any_u8, time, job, half, step}
 use Rattle.dap_messages.specs.Messages.{report}
+use Rattle.lane_records.specs.declared.laws.TheConstants.{MOST_RECORD}
 use Rattle.lane_records.specs.declared.outcome.Outcome.{Outcome}
 use Rattle.lane_records.specs.declared.closed.Closed.{Closed}
 use Rattle.lane_records.specs.declared.stored.StoredTask.{StoredTask}
@@ -244,4 +245,4 @@ record_by b =
 
 -- a record has at most 4,098,102 bytes
 abbrev pub record_ : Grammar Record
-record_ = by_first first_of_record record_by 4098101
+record_ = by_first first_of_record record_by (MOST_RECORD - 1)

@@ -1,10 +1,12 @@
 -- What records are made of, as tables of their fields.
-use Rattle.std.specs.Prelude.{ℕ, List, Option, Some, None, ◌==◌, if◌then◌else◌}
+use Rattle.std.specs.Prelude.{ℕ, ◌+◌, List, Option, Some, None, ◌==◌, if◌then◌else◌}
 use Rattle.std.specs.Int.{w32}
 use Rattle.vdaf_api.specs.declared.kind.Kind.{Kind}
 use Rattle.vdaf_api.specs.declared.kind.Kind.TheVariants.{Count, Sum, Histogram}
 use Rattle.dap_tasks.specs.declared.keys.SealKeys.{SealKeys}
+use Rattle.dap_bytes.specs.declared.limits.TheConstants.{GREATEST_MINIMUM, GREATEST_PRECISION}
 use Rattle.dap_messages.specs.declared.code.Code.{Code}
+use Rattle.dap_messages.specs.declared.reply.TheConstants.{MOST_OUT}
 use Rattle.dap_messages.specs.Grammar.{Grammar, number, byte, cells, any_text, nothing, ◌⊗◌, shaped, variant, bytes, name, by_first}
 use Rattle.dap_messages.specs.Forms.{any_u32, checksum, code}
 use Rattle.lane_records.specs.declared.outcome.Outcome.{Outcome}
@@ -33,12 +35,12 @@ first_of_outcome (Failed c) = 2
 -- 01 and an out share, or 02 and a code
 abbrev pub outcome_by : ℕ → Option (Grammar Outcome)
 outcome_by b =
-    if b == 1 then Some (variant Finished out_of (bytes 16384)) else
+    if b == 1 then Some (variant Finished out_of (bytes MOST_OUT)) else
     (if b == 2 then Some (variant Failed code_in code) else None)
 
 -- an outcome by its first byte
 abbrev pub outcome : Grammar Outcome
-outcome = by_first first_of_outcome outcome_by 16388
+outcome = by_first first_of_outcome outcome_by (4 + MOST_OUT)
 
 -- ---- what a lane had of a batch
 
@@ -46,7 +48,7 @@ outcome = by_first first_of_outcome outcome_by 16388
 abbrev pub closed : Grammar Closed
 closed =
     shaped (λ p. record { count = p.0; rejected = p.1.0; checksum = p.1.1.0; share = p.1.1.1 }) (λ c. (c.count, (c.rejected, (c.checksum, c.share))))
-    (any_u32 ⊗ any_u32 ⊗ checksum ⊗ bytes 16384)
+    (any_u32 ⊗ any_u32 ⊗ checksum ⊗ bytes MOST_OUT)
 
 -- ---- tasks
 
@@ -83,7 +85,7 @@ kind_by b =
 
 -- a kind by its byte
 abbrev pub kind : Grammar Kind
-kind = by_first first_of_kind kind_by 505
+kind = by_first first_of_kind kind_by bounds.most
 
 -- a key
 abbrev pub key : Grammar (List ℕ)
@@ -98,4 +100,4 @@ abbrev pub stored : Grammar StoredTask
 stored =
     shaped (λ p. record { name = p.0; kind = p.1.0; min = p.1.1.0; precision = p.1.1.1.0; verify = p.1.1.1.1.0; keys = p.1.1.1.1.1 })
     (λ t. (t.name, (t.kind, (t.min, (t.precision, (t.verify, t.keys))))))
-    (name ⊗ kind ⊗ number w32 1 1000000 ⊗ number w32 1 1000000000 ⊗ key ⊗ keys)
+    (name ⊗ kind ⊗ number w32 1 GREATEST_MINIMUM ⊗ number w32 1 GREATEST_PRECISION ⊗ key ⊗ keys)

@@ -1,11 +1,10 @@
 //! What a front's record of an answer holds.
 
-use crate::allowed::{Tested, are_bytes, is_array, is_name, is_u32, is_u64};
 use dap_bytes::{Bytes, Cursor, LATEST_TIME, Name, put_u8, put_u32, put_u64};
-use dap_messages::fields::{
-    put_bytes, put_name, put_slice, read_array, read_bytes, read_name, read_u8, read_u32, read_u64,
+use dap_messages::{
+    MOST_OUT, ReadFault, Reply, Spelled, are_bytes, is_array, is_name, is_u32, is_u64, put_bytes,
+    put_name, put_slice, read_array, read_bytes, read_name, read_u8, read_u32, read_u64,
 };
-use dap_messages::{MOST_OUT, ReadFault, Reply, Spelled};
 use std::alloc::{AllocError, Global};
 
 /// What the leader's front answered for a batch: how many reports were finished and how many rejected, and both nodes'
@@ -74,6 +73,13 @@ impl Spelled for Answered {
         put_bytes(out, &self.leader)?;
         put_bytes(out, &self.helper)
     }
+
+    fn is_allowed(&self) -> bool {
+        is_u32(self.count, 0, u32::MAX)
+            && is_u32(self.rejected, 0, u32::MAX)
+            && are_bytes(&self.leader, MOST_OUT)
+            && are_bytes(&self.helper, MOST_OUT)
+    }
 }
 
 impl Spelled for Request {
@@ -105,6 +111,13 @@ impl Spelled for Request {
         put_u32(out, self.count)?;
         put_slice(out, &self.checksum)
     }
+
+    fn is_allowed(&self) -> bool {
+        is_name(&self.name)
+            && is_u64(self.start, 0, LATEST_TIME)
+            && is_u32(self.count, 0, u32::MAX)
+            && is_array(&self.checksum)
+    }
 }
 
 impl Spelled for Response {
@@ -129,27 +142,7 @@ impl Spelled for Response {
         put_u64(out, self.start)?;
         self.reply.put(out)
     }
-}
 
-impl Tested for Answered {
-    fn is_allowed(&self) -> bool {
-        is_u32(self.count, 0, u32::MAX)
-            && is_u32(self.rejected, 0, u32::MAX)
-            && are_bytes(&self.leader, MOST_OUT)
-            && are_bytes(&self.helper, MOST_OUT)
-    }
-}
-
-impl Tested for Request {
-    fn is_allowed(&self) -> bool {
-        is_name(&self.name)
-            && is_u64(self.start, 0, LATEST_TIME)
-            && is_u32(self.count, 0, u32::MAX)
-            && is_array(&self.checksum)
-    }
-}
-
-impl Tested for Response {
     fn is_allowed(&self) -> bool {
         is_name(&self.name) && is_u64(self.start, 0, LATEST_TIME) && self.reply.is_allowed()
     }

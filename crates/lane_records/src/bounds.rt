@@ -5,8 +5,7 @@ ghost use Rattle.dap_messages.specs.Spelled.{Finds, Gives, Answers};
 ghost use Rattle.lane_records.specs.Bounds.{is_over, bound, bounds_at, allowed_bounds, bounds};
 
 use dap_bytes::{Cursor, put_u8, put_u64};
-use dap_messages::fields::{read_u8, read_u64};
-use dap_messages::{Form, ReadFault};
+use dap_messages::{Form, ReadFault, read_u8, read_u64};
 use std::alloc::{AllocError, Global};
 use vdaf_api::Bounds;
 

@@ -1,9 +1,10 @@
 //! What a lane had of a batch when it closed it.
 
-use crate::allowed::{Tested, are_bytes, is_array, is_u32};
 use dap_bytes::{Bytes, Cursor, put_u32};
-use dap_messages::fields::{put_bytes, put_slice, read_array, read_bytes, read_u32};
-use dap_messages::{MOST_OUT, ReadFault, Spelled};
+use dap_messages::{
+    MOST_OUT, ReadFault, Spelled, are_bytes, is_array, is_u32, put_bytes, put_slice, read_array,
+    read_bytes, read_u32,
+};
 use std::alloc::{AllocError, Global};
 
 /// What a lane had of a batch when it closed it: how many reports it finished and how many it rejected, the checksum of
@@ -47,9 +48,7 @@ impl Spelled for Closed {
         put_slice(out, &self.checksum)?;
         put_bytes(out, &self.share)
     }
-}
 
-impl Tested for Closed {
     fn is_allowed(&self) -> bool {
         is_u32(self.count, 0, u32::MAX)
             && is_u32(self.rejected, 0, u32::MAX)

@@ -8,8 +8,7 @@ use crate::batch::{Answered, Request, Response};
 use crate::record::Record;
 use crate::stored::StoredTask;
 use dap_bytes::{Cursor, LATEST_TIME, Name, put_u8, put_u64};
-use dap_messages::fields::{put_name, read_name, read_u8, read_u64};
-use dap_messages::{Form, ReadFault, Spelled};
+use dap_messages::{Form, ReadFault, Spelled, put_name, read_name, read_u8, read_u64};
 use std::alloc::{AllocError, Global};
 
 /// The field of a front's Open.

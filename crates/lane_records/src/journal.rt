@@ -34,18 +34,21 @@ impl<T: Drop> From<AllocFailed<T>> for RecordsFault {
 /// The records that the byte strings of a journal spell, in their order: `Form` exactly where one of them spells none.
 pub fn read_records(alloc: Global, texts: &[Vec<u8>]) -> Result<Vec<Record>, RecordsFault>
     // What is read is spelled so.
-    ensures found { IfOk result (λ xs. IsTrue (are_allowed xs.items) × (bytes_of texts.now ≡ spell_all xs.items)) }
+    ensures read_as_spelled { IfOk result
+        (λ xs. IsTrue (are_allowed xs.items) × (bytes_of texts.now ≡ spell_all xs.items)) }
     // What is spelled so is read, unless memory runs out.
-    ensures only { (xs : List Record) → IsTrue (are_allowed xs) → bytes_of texts.now ≡ spell_all xs → AreOnly xs result }
+    ensures every_spelling_is_read { (xs : List Record) → IsTrue (are_allowed xs)
+        → bytes_of texts.now ≡ spell_all xs → AreOnly xs result }
     // Which byte string, and which place in it, is the first fault.
-    ensures exact { ReadsAll (bytes_of texts.now) result }
+    ensures first_fault { ReadsAll (bytes_of texts.now) result }
 {
     read_each(alloc, texts)
 }
 
 fn read_each(alloc: Global, texts: &[Vec<u8>]) -> Result<Vec<Record>, RecordsFault>
-    ensures found { IfOk result (λ xs. IsTrue (are_allowed xs.items) × (bytes_of texts.now ≡ spell_all xs.items)) }
-    ensures exact { ReadsAll (bytes_of texts.now) result }
+    ensures read_as_spelled { IfOk result
+        (λ xs. IsTrue (are_allowed xs.items) × (bytes_of texts.now ≡ spell_all xs.items)) }
+    ensures first_fault { ReadsAll (bytes_of texts.now) result }
 {
     let mut records = Vec::new(alloc);
     for text in texts {
@@ -57,8 +60,8 @@ fn read_each(alloc: Global, texts: &[Vec<u8>]) -> Result<Vec<Record>, RecordsFau
 
 /// The record at a place of a journal.
 fn read_entry(alloc: Global, entry: u64, text: &[u8]) -> Result<Record, RecordsFault>
-    ensures found { IfOk result (λ x. IsTrue (record_.allowed x) × (text.now ≡ record_.spell x)) }
-    ensures exact { ReadsEntry entry text.now result }
+    ensures read_as_spelled { IfOk result (λ x. IsTrue (record_.allowed x) × (text.now ≡ record_.spell x)) }
+    ensures first_fault { ReadsEntry entry text.now result }
 {
     match read_record(alloc, text) {
         Ok(record) => Ok(record),

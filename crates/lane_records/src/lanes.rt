@@ -8,8 +8,10 @@ use crate::closed::Closed;
 use crate::outcome::Outcome;
 use crate::record::Record;
 use dap_bytes::{Cursor, LATEST_TIME, Name, put_u8, put_u64};
-use dap_messages::fields::{put_name, read_name, read_u8, read_u64};
-use dap_messages::{Form, Half, Items, JobNo, ReadFault, Report, Spelled, Step};
+use dap_messages::{
+    Form, Half, Items, JobNo, ReadFault, Report, Spelled, Step, put_name, read_name, read_u8,
+    read_u64,
+};
 use std::alloc::{AllocError, Global};
 
 /// The fields of a lane's Open.

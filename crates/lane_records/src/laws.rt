@@ -9,14 +9,16 @@ ghost use Rattle.lane_records.specs.declared.stored.StoredTask.{StoredTask};
 ghost use Rattle.lane_records.specs.Records.{record_};
 ghost use Rattle.lane_records.specs.Stored.{stored};
 
+use dap_bytes::LONGEST_BLOCK;
+
 /// The most bytes of a record.
 pub const MOST_RECORD: usize = 4_098_102;
 
-/// A law: a record has at most so many bytes. With the four bytes of its length it is within the 16,777,216 bytes of a
-/// block of a journal, so that each record may be appended.
+/// A law: a record has at most so many bytes. With the four bytes of its length it is within a block of a journal, so
+/// that each record may be appended.
 pub fn records_are_bounded()
     ensures bounded { (x : Record) → IsTrue (record_.allowed x) → length (record_.spell x) ≤ MOST_RECORD }
-    ensures appended { (x : Record) → IsTrue (record_.allowed x) → 4 + length (record_.spell x) ≤ 16777216 }
+    ensures appended { (x : Record) → IsTrue (record_.allowed x) → 4 + length (record_.spell x) ≤ LONGEST_BLOCK }
 {}
 
 /// A law: what is spelled is read again, so that no two records have one spelling; and what is read from bytes has a

@@ -12,6 +12,7 @@ mod leader_lane;
 
 use crate::record::Record;
 use dap_bytes::{Node, Part};
+use dap_messages::Spelled;
 use fronts::{helper_front_may, leader_front_may};
 use helper_lane::helper_lane_may;
 use history::{has_open, is_open};

@@ -2,7 +2,6 @@
 //! a journal's records with `read_records`, write each with `write_record`, and see it as a variant with its fields.
 #![tactic(auto)]
 
-mod allowed;
 mod batch;
 mod bounds;
 mod closed;
@@ -28,7 +27,7 @@ pub use legality::{
     one_record_is_the_first_refused, reports_are_continued_once, reports_are_finished_once,
 };
 pub use outcome::Outcome;
-pub use place::{FrontFault, LaneFault, Place};
+pub use place::{FrontFault, LaneFault, MOST_LANES, Place};
 pub use reading::{read_record, write_record};
 pub use record::Record;
 pub use stored::StoredTask;

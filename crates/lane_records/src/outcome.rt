@@ -1,9 +1,7 @@
 //! Outcomes of reports as a lane keeps them.
 
-use crate::allowed::{Tested, are_bytes};
 use dap_bytes::{Bytes, Cursor, put_u8};
-use dap_messages::fields::{cut_off, put_bytes, read_bytes};
-use dap_messages::{Code, MOST_OUT, ReadFault, Spelled};
+use dap_messages::{Code, MOST_OUT, ReadFault, Spelled, are_bytes, cut_off, put_bytes, read_bytes};
 use std::alloc::{AllocError, Global};
 
 /// The outcome of a report in a lane's journal: it was finished, with the out share of the node whose lane it is, or why
@@ -52,9 +50,7 @@ impl Spelled for Outcome {
             }
         }
     }
-}
 
-impl Tested for Outcome {
     fn is_allowed(&self) -> bool {
         match self {
             Outcome::Finished(share) => are_bytes(share, MOST_OUT),

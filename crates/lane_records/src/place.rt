@@ -2,7 +2,10 @@
 
 use thiserror::Error;
 
-/// The place of a lane: how many lanes its node has, 1 to 16, and which of them it is, from 0.
+/// The most lanes of a node.
+pub const MOST_LANES: u8 = 16;
+
+/// The place of a lane: how many lanes its node has, 1 to `MOST_LANES`, and which of them it is, from 0.
 #[derive(Clone, Copy, Debug, PartialEq, Eq)]
 pub struct Place {
     /// How many lanes there are.

@@ -12,11 +12,12 @@ use std::alloc::{AllocError, Global};
 /// The record that the bytes spell, all of them: `Form` with the place of the first fault exactly where there is none.
 pub fn read_record(alloc: Global, bytes: &[u8]) -> Result<Record, ReadFault>
     // What is read is spelled so.
-    ensures found { IfOk result (λ x. IsTrue (record_.allowed x) × (bytes.now ≡ record_.spell x)) }
+    ensures read_as_spelled { IfOk result (λ x. IsTrue (record_.allowed x) × (bytes.now ≡ record_.spell x)) }
     // What is spelled so is read, unless memory runs out.
-    ensures only { (x : Record) → IsTrue (record_.allowed x) → bytes.now ≡ record_.spell x → IsOnly x result }
+    ensures every_spelling_is_read { (x : Record) → IsTrue (record_.allowed x)
+        → bytes.now ≡ record_.spell x → IsOnly x result }
     // Which place it is.
-    ensures exact { Reads record_ bytes.now result }
+    ensures first_fault { Reads record_ bytes.now result }
 {
     read_all(alloc, bytes)
 }

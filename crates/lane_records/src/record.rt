@@ -3,7 +3,6 @@
 ghost use Rattle.std.specs.Prelude.{◌≡◌};
 ghost use Rattle.lane_records.specs.Records.{ask_fields};
 
-use crate::allowed::{Tested, is_name, is_u8, is_u64};
 use crate::batch::{Answered, Request, Response};
 use crate::closed::Closed;
 use crate::fronts::{
@@ -18,8 +17,9 @@ use crate::lanes::{
 use crate::outcome::Outcome;
 use crate::stored::StoredTask;
 use dap_bytes::{Cursor, LATEST_TIME, Name, put_u8, put_u64};
-use dap_messages::fields::{cut_off, put_name};
-use dap_messages::{Half, Items, JobNo, ReadFault, Report, Spelled, Step};
+use dap_messages::{
+    Half, Items, JobNo, ReadFault, Report, Spelled, Step, cut_off, is_name, is_u8, is_u64, put_name,
+};
 use std::alloc::{AllocError, Global};
 
 /// A record of a journal.
@@ -57,45 +57,6 @@ pub enum Record {
     HelperTask(StoredTask),
     /// The helper's front answered a request for its share.
     HelperAnswer(Request, Response),
-}
-
-impl Record {
-    ghost use Rattle.lane_records.specs.Records.{record_};
-
-    /// Whether the record is one that some bytes spell. It takes no memory.
-    pub fn is_allowed(&self) -> bool
-        ensures { result ≡ record_.allowed self.now }
-    {
-        match self {
-            Record::LeaderOpen(lanes, lane) | Record::HelperOpen(lanes, lane) => {
-                is_u8(*lanes, 0, u8::MAX) && is_u8(*lane, 0, u8::MAX)
-            }
-            Record::Accept(report) => report.is_allowed(),
-            Record::Continue(name, job, steps) => {
-                is_name(name) && job.is_allowed() && steps.is_allowed()
-            }
-            Record::Finish(job, outs) | Record::Commit(job, outs) => {
-                job.is_allowed() && outs.is_allowed()
-            }
-            Record::LeaderClose(name, start, closed) | Record::HelperClose(name, start, closed) => {
-                is_batch(name, *start) && closed.is_allowed()
-            }
-            Record::Start(job, name, halves) => {
-                job.is_allowed() && is_name(name) && halves.is_allowed()
-            }
-            Record::LeaderFrontOpen(lanes) | Record::HelperFrontOpen(lanes) => {
-                is_u8(*lanes, 0, u8::MAX)
-            }
-            Record::LeaderTask(task) | Record::HelperTask(task) => task.is_allowed(),
-            Record::Ask(name, start) => is_batch(name, *start),
-            Record::LeaderAnswer(name, start, answered) => {
-                is_batch(name, *start) && answered.is_allowed()
-            }
-            Record::HelperAnswer(request, response) => {
-                request.is_allowed() && response.is_allowed()
-            }
-        }
-    }
 }
 
 /// A name and the start of a batch.
@@ -171,6 +132,38 @@ impl Spelled for Record {
                 put_u8(out, 0x34)?;
                 request.put(out)?;
                 response.put(out)
+            }
+        }
+    }
+
+    fn is_allowed(&self) -> bool {
+        match self {
+            Record::LeaderOpen(lanes, lane) | Record::HelperOpen(lanes, lane) => {
+                is_u8(*lanes, 0, u8::MAX) && is_u8(*lane, 0, u8::MAX)
+            }
+            Record::Accept(report) => report.is_allowed(),
+            Record::Continue(name, job, steps) => {
+                is_name(name) && job.is_allowed() && steps.is_allowed()
+            }
+            Record::Finish(job, outs) | Record::Commit(job, outs) => {
+                job.is_allowed() && outs.is_allowed()
+            }
+            Record::LeaderClose(name, start, closed) | Record::HelperClose(name, start, closed) => {
+                is_batch(name, *start) && closed.is_allowed()
+            }
+            Record::Start(job, name, halves) => {
+                job.is_allowed() && is_name(name) && halves.is_allowed()
+            }
+            Record::LeaderFrontOpen(lanes) | Record::HelperFrontOpen(lanes) => {
+                is_u8(*lanes, 0, u8::MAX)
+            }
+            Record::LeaderTask(task) | Record::HelperTask(task) => task.is_allowed(),
+            Record::Ask(name, start) => is_batch(name, *start),
+            Record::LeaderAnswer(name, start, answered) => {
+                is_batch(name, *start) && answered.is_allowed()
+            }
+            Record::HelperAnswer(request, response) => {
+                request.is_allowed() && response.is_allowed()
             }
         }
     }

@@ -4,13 +4,12 @@ ghost use Rattle.std.specs.Prelude.{◌≡◌, ◌++◌, IsTrue, OnOk};
 ghost use Rattle.dap_messages.specs.Spelled.{Gives, Finds};
 ghost use Rattle.lane_records.specs.Stored.{kind, keys};
 
-use crate::allowed::{Tested, is_array, is_name, is_u8, is_u32};
 use crate::bounds::{are_bounds, put_bounds, read_bounds};
 use dap_bytes::{Cursor, GREATEST_MINIMUM, GREATEST_PRECISION, Name, put_u8, put_u32};
-use dap_messages::fields::{
-    cut_off, put_name, put_slice, read_array, read_name, read_u8, read_u32,
+use dap_messages::{
+    Form, ReadFault, Spelled, cut_off, is_array, is_name, is_u8, is_u32, put_name, put_slice,
+    read_array, read_name, read_u8, read_u32,
 };
-use dap_messages::{Form, ReadFault, Spelled};
 use dap_tasks::SealKeys;
 use std::alloc::{AllocError, Global};
 use vdaf_api::Kind;
@@ -66,6 +65,15 @@ impl Spelled for StoredTask {
         put_slice(out, &self.verify)?;
         put_keys(out, &self.keys)
     }
+
+    fn is_allowed(&self) -> bool {
+        is_name(&self.name)
+            && is_kind(&self.kind)
+            && is_u32(self.min, 1, GREATEST_MINIMUM)
+            && is_u32(self.precision, 1, GREATEST_PRECISION)
+            && is_array(&self.verify)
+            && are_keys(&self.keys)
+    }
 }
 
 fn read_kind(alloc: Global, cursor: &mut Cursor<'_>) -> Result<Kind, ReadFault>
@@ -117,17 +125,6 @@ fn put_keys(out: &mut Vec<u8>, one: &SealKeys) -> Result<(), AllocError>
 {
     put_slice(out, &one.enc)?;
     put_slice(out, &one.mac)
-}
-
-impl Tested for StoredTask {
-    fn is_allowed(&self) -> bool {
-        is_name(&self.name)
-            && is_kind(&self.kind)
-            && is_u32(self.min, 1, GREATEST_MINIMUM)
-            && is_u32(self.precision, 1, GREATEST_PRECISION)
-            && is_array(&self.verify)
-            && are_keys(&self.keys)
-    }
 }
 
 fn is_kind(given: &Kind) -> bool

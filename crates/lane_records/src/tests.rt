@@ -1,5 +1,5 @@
 use super::*;
-use dap_messages::ReadFault;
+use dap_messages::{ReadFault, Spelled};
 use std::alloc::Global;
 use std::test::Fail;
 

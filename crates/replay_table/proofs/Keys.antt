@@ -3,7 +3,7 @@ use Rattle.std.specs.Ordering.{nat_cmp}
 use Rattle.std.specs.Cmp.{IsTotalOrder}
 use Rattle.std.specs.Cmp.Lexicographic.{slice_cmp, nat_list_cmp_total}
 use Rattle.std.specs.FinMap as map
-use Rattle.dap_batch.proofs.Maps.{pair-same, pair-total}
+use Rattle.dap_batch.specs.MapLaws.{pair-same, pair-total}
 use Rattle.replay_table.specs.Reports.{report_order}
 
 pub report_order-total : IsTotalOrder report_order

@@ -16,12 +16,12 @@ pub(super) fn leader_front_may(x: &Record, earlier: &[Record]) -> bool
 {
     match x {
         Record::LeaderFrontOpen(lanes) => has_lanes(*lanes, earlier),
-        Record::LeaderTask(task) => !stored(&task.name, earlier),
+        Record::LeaderTask(task) => !is_stored(&task.name, earlier),
         Record::Ask(name, start) => {
-            stored_for(name, *start, earlier) && !asked(name, *start, earlier)
+            is_stored_for(name, *start, earlier) && !was_asked(name, *start, earlier)
         }
         Record::LeaderAnswer(name, start, _) => {
-            asked(name, *start, earlier) && !leader_answered(name, *start, earlier)
+            was_asked(name, *start, earlier) && !has_leader_answered(name, *start, earlier)
         }
         _ => false,
     }
@@ -36,7 +36,7 @@ fn stores(name: &Name, x: &Record) -> bool
     }
 }
 
-fn stored(name: &Name, earlier: &[Record]) -> bool
+fn is_stored(name: &Name, earlier: &[Record]) -> bool
     ensures { result ≡ list_any (stores name.now) earlier.now }
 {
     earlier.iter().any(|x| stores(name, x))
@@ -58,7 +58,7 @@ fn stores_for(name: &Name, start: u64, x: &Record) -> bool
     }
 }
 
-fn stored_for(name: &Name, start: u64, earlier: &[Record]) -> bool
+fn is_stored_for(name: &Name, start: u64, earlier: &[Record]) -> bool
     ensures { result ≡ list_any (stores_for name.now start) earlier.now }
 {
     earlier.iter().any(|x| stores_for(name, start, x))
@@ -73,7 +73,7 @@ fn asks(name: &Name, start: u64, x: &Record) -> bool
     }
 }
 
-fn asked(name: &Name, start: u64, earlier: &[Record]) -> bool
+fn was_asked(name: &Name, start: u64, earlier: &[Record]) -> bool
     ensures { result ≡ list_any (asks name.now start) earlier.now }
 {
     earlier.iter().any(|x| asks(name, start, x))
@@ -88,7 +88,7 @@ fn leader_answers(name: &Name, start: u64, x: &Record) -> bool
     }
 }
 
-fn leader_answered(name: &Name, start: u64, earlier: &[Record]) -> bool
+fn has_leader_answered(name: &Name, start: u64, earlier: &[Record]) -> bool
     ensures { result ≡ list_any (leader_answers name.now start) earlier.now }
 {
     earlier.iter().any(|x| leader_answers(name, start, x))
@@ -115,7 +115,7 @@ fn may_answer(request: &Request, response: &Response, earlier: &[Record]) -> boo
         && response.name == request.name
         && response.start == request.start
         && is_share(&response.reply)
-        && !helper_answered(&request.name, request.start, earlier)
+        && !has_helper_answered(&request.name, request.start, earlier)
 }
 
 fn minimum_of(name: &Name, x: &Record) -> Option<u32>
@@ -163,7 +163,7 @@ fn helper_answers(name: &Name, start: u64, x: &Record) -> bool
     }
 }
 
-fn helper_answered(name: &Name, start: u64, earlier: &[Record]) -> bool
+fn has_helper_answered(name: &Name, start: u64, earlier: &[Record]) -> bool
     ensures { result ≡ list_any (helper_answers name.now start) earlier.now }
 {
     earlier.iter().any(|x| helper_answers(name, start, x))

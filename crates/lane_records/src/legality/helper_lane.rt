@@ -5,7 +5,7 @@ ghost use Rattle.std.specs.List.{list_any, list_all};
 ghost use Rattle.lane_records.specs.HistoryTests.{is_of_lane};
 ghost use Rattle.lane_records.specs.LaneTests.{starts_job, starts_under, commits_job, is_finished, finishes, commits_report, was_finished, is_new, starts_for, helper_closes, may_start, helper_lane_may};
 
-use super::history::{has_lanes, is_of_lane, same_ids, same_job};
+use super::history::{has_lanes, is_of_lane, same_ids};
 use crate::outcome::Outcome;
 use crate::record::Record;
 use dap_bytes::{Id, Name};
@@ -21,9 +21,9 @@ pub(super) fn helper_lane_may(lane: u8, x: &Record, earlier: &[Record]) -> bool
         }
         Record::Start(job, _, halves) => may_start(lane, job, halves.as_slice(), earlier),
         Record::Commit(job, outcomes) => {
-            started_for(job, outcomes.as_slice(), earlier) && !committed(job, earlier)
+            was_started_for(job, outcomes.as_slice(), earlier) && !was_committed(job, earlier)
         }
-        Record::HelperClose(name, start, _) => !closed(name, *start, earlier),
+        Record::HelperClose(name, start, _) => !was_closed(name, *start, earlier),
         _ => false,
     }
 }
@@ -32,7 +32,7 @@ pub(super) fn helper_lane_may(lane: u8, x: &Record, earlier: &[Record]) -> bool
 fn may_start(lane: u8, job: &JobNo, halves: &[Tagged<Half>], earlier: &[Record]) -> bool
     ensures { result ≡ may_start lane job.now halves.now earlier.now }
 {
-    job.lane == lane && are_of_lane(lane, halves, earlier) && !started(job, earlier)
+    job.lane == lane && are_of_lane(lane, halves, earlier) && !was_started(job, earlier)
 }
 
 /// Whether each item's report is of this lane.
@@ -46,12 +46,12 @@ fn starts_job(job: &JobNo, x: &Record) -> bool
     ensures { result ≡ starts_job job.now x.now }
 {
     match x {
-        Record::Start(other, _, _) => same_job(other, job),
+        Record::Start(other, _, _) => *other == *job,
         _ => false,
     }
 }
 
-fn started(job: &JobNo, earlier: &[Record]) -> bool
+fn was_started(job: &JobNo, earlier: &[Record]) -> bool
     ensures { result ≡ list_any (starts_job job.now) earlier.now }
 {
     earlier.iter().any(|x| starts_job(job, x))
@@ -61,12 +61,12 @@ fn starts_under(name: &Name, job: &JobNo, x: &Record) -> bool
     ensures { result ≡ starts_under name.now job.now x.now }
 {
     match x {
-        Record::Start(other, under, _) => same_job(other, job) && *under == *name,
+        Record::Start(other, under, _) => *other == *job && *under == *name,
         _ => false,
     }
 }
 
-fn started_under(name: &Name, job: &JobNo, earlier: &[Record]) -> bool
+fn was_started_under(name: &Name, job: &JobNo, earlier: &[Record]) -> bool
     ensures { result ≡ list_any (starts_under name.now job.now) earlier.now }
 {
     earlier.iter().any(|x| starts_under(name, job, x))
@@ -76,12 +76,12 @@ fn commits_job(job: &JobNo, x: &Record) -> bool
     ensures { result ≡ commits_job job.now x.now }
 {
     match x {
-        Record::Commit(other, _) => same_job(other, job),
+        Record::Commit(other, _) => *other == *job,
         _ => false,
     }
 }
 
-fn committed(job: &JobNo, earlier: &[Record]) -> bool
+fn was_committed(job: &JobNo, earlier: &[Record]) -> bool
     ensures { result ≡ list_any (commits_job job.now) earlier.now }
 {
     earlier.iter().any(|x| commits_job(job, x))
@@ -109,7 +109,7 @@ fn commits_report(name: &Name, id: &Id, earlier: &[Record], x: &Record) -> bool
 {
     match x {
         Record::Commit(job, outcomes) => {
-            finishes(id, outcomes.as_slice()) && started_under(name, job, earlier)
+            finishes(id, outcomes.as_slice()) && was_started_under(name, job, earlier)
         }
         _ => false,
     }
@@ -142,7 +142,7 @@ fn starts_for(job: &JobNo, outcomes: &[Tagged<Outcome>], earlier: &[Record], x: 
 {
     match x {
         Record::Start(other, name, halves) => {
-            same_job(other, job)
+            *other == *job
                 && same_ids(halves.as_slice(), outcomes)
                 && are_new(name, outcomes, earlier)
         }
@@ -150,7 +150,7 @@ fn starts_for(job: &JobNo, outcomes: &[Tagged<Outcome>], earlier: &[Record], x: 
     }
 }
 
-fn started_for(job: &JobNo, outcomes: &[Tagged<Outcome>], earlier: &[Record]) -> bool
+fn was_started_for(job: &JobNo, outcomes: &[Tagged<Outcome>], earlier: &[Record]) -> bool
     ensures { result ≡ list_any (starts_for job.now outcomes.now earlier.now) earlier.now }
 {
     earlier
@@ -167,7 +167,7 @@ fn closes(name: &Name, start: u64, x: &Record) -> bool
     }
 }
 
-fn closed(name: &Name, start: u64, earlier: &[Record]) -> bool
+fn was_closed(name: &Name, start: u64, earlier: &[Record]) -> bool
     ensures { result ≡ list_any (helper_closes name.now start) earlier.now }
 {
     earlier.iter().any(|x| closes(name, start, x))

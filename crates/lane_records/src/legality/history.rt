@@ -3,12 +3,13 @@
 ghost use Rattle.std.specs.Prelude.{◌≡◌};
 ghost use Rattle.std.specs.List.{list_any, list_all, count_by};
 ghost use Rattle.lane_records.specs.History.{lanes_in};
-ghost use Rattle.lane_records.specs.HistoryTests.{is_open, is_none_but, has_lanes, puts_into, is_of_lane, same_job, has_id, same_ids};
+ghost use Rattle.lane_records.specs.HistoryTests.{is_open, is_none_but, has_lanes, puts_into, is_of_lane, has_id, same_ids};
 
+use crate::place::MOST_LANES;
 use crate::record::Record;
 use dap_batch::lane_of;
 use dap_bytes::Id;
-use dap_messages::{JobNo, Tagged};
+use dap_messages::Tagged;
 
 /// The number of lanes that an Open names. None for other records.
 fn lanes_in(x: &Record) -> Option<u8>
@@ -19,7 +20,18 @@ fn lanes_in(x: &Record) -> Option<u8>
         | Record::HelperOpen(lanes, _)
         | Record::LeaderFrontOpen(lanes)
         | Record::HelperFrontOpen(lanes) => Some(*lanes),
-        _ => None,
+        Record::Accept(_)
+        | Record::Continue(_, _, _)
+        | Record::Finish(_, _)
+        | Record::LeaderClose(_, _, _)
+        | Record::Start(_, _, _)
+        | Record::Commit(_, _)
+        | Record::HelperClose(_, _, _)
+        | Record::LeaderTask(_)
+        | Record::Ask(_, _)
+        | Record::LeaderAnswer(_, _, _)
+        | Record::HelperTask(_)
+        | Record::HelperAnswer(_, _) => None,
     }
 }
 
@@ -67,11 +79,11 @@ fn are_none_but(lanes: u8, earlier: &[Record]) -> bool
     earlier.iter().all(|x| is_none_but(lanes, x))
 }
 
-/// Whether an Open may name this number of lanes: 1 to 16, as in each Open before.
+/// Whether an Open may name this number of lanes: 1 to `MOST_LANES`, as in each Open before.
 pub(super) fn has_lanes(lanes: u8, earlier: &[Record]) -> bool
     ensures { result ≡ has_lanes lanes earlier.now }
 {
-    1 <= lanes && lanes <= 16 && are_none_but(lanes, earlier)
+    1 <= lanes && lanes <= MOST_LANES && are_none_but(lanes, earlier)
 }
 
 /// Whether the record is an Open among whose lanes the identifier's is this one.
@@ -89,15 +101,6 @@ pub(super) fn is_of_lane(lane: u8, id: &Id, earlier: &[Record]) -> bool
     ensures { result ≡ is_of_lane lane id.now earlier.now }
 {
     earlier.iter().any(|x| puts_into(lane, id, x))
-}
-
-/// Whether both are the same job.
-pub(super) fn same_job(left: &JobNo, right: &JobNo) -> bool
-    ensures { result ≡ same_job left.now right.now }
-{
-    left.lane == right.lane
-        && left.incarnation == right.incarnation
-        && left.counter == right.counter
 }
 
 /// Whether the identifier is one of these items'.

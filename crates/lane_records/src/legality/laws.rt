@@ -24,7 +24,8 @@ use dap_messages::{Half, Step, items_ascend};
 pub fn legal_journals_grow_by_allowed_records()
     ensures empty { (node : Node) (part : Part) → IsLegalJournal node part [] }
     ensures grown { (node : Node) (part : Part) (journal : List Record) (x : Record) →
-        IsLegalJournal node part (journal ++ x ∷ []) ↔ (IsLegalJournal node part journal × May node part x (reverse journal)) }
+        IsLegalJournal node part (journal ++ x ∷ [])
+        ↔ (IsLegalJournal node part journal × May node part x (reverse journal)) }
 {}
 
 /// A law: a journal has one place of the first record that is refused, or none.
@@ -36,9 +37,11 @@ pub fn one_record_is_the_first_refused()
 /// A law: the identifiers of a job strictly ascend, at both lanes, so that no report stands twice in one.
 pub fn identifiers_of_a_job_ascend()
     ensures continued { (lane : ℕ) (journal : List Record) → IsLegalJournal Leader (Lane lane) journal →
-        (name : List ℕ) (job : JobNo) (steps : List (Tagged Step)) → Mem (Continue name job steps) journal → IsAscending (ids_of steps) }
+        (name : List ℕ) (job : JobNo) (steps : List (Tagged Step)) →
+        Mem (Continue name job steps) journal → IsAscending (ids_of steps) }
     ensures started { (lane : ℕ) (journal : List Record) → IsLegalJournal Helper (Lane lane) journal →
-        (name : List ℕ) (job : JobNo) (halves : List (Tagged Half)) → Mem (Start job name halves) journal → IsAscending (ids_of halves) }
+        (name : List ℕ) (job : JobNo) (halves : List (Tagged Half)) →
+        Mem (Start job name halves) journal → IsAscending (ids_of halves) }
 {
     items_ascend::<Step>();
     items_ascend::<Half>();
@@ -55,7 +58,9 @@ pub fn reports_are_continued_once()
 /// A law: a helper's lane finishes no report of a task in two jobs.
 pub fn reports_are_finished_once()
     ensures { (lane : ℕ) (journal : List Record) → IsLegalJournal Helper (Lane lane) journal →
-        (name id : List ℕ) (job other : JobNo) (halves others : List (Tagged Half)) (outs results : List (Tagged Outcome)) →
+        (name id : List ℕ) (job other : JobNo) (halves others : List (Tagged Half))
+        (outs results : List (Tagged Outcome)) →
         Mem (Start job name halves) journal → Mem (Commit job outs) journal → Finishes id outs →
-        Mem (Start other name others) journal → Mem (Commit other results) journal → Finishes id results → job ≡ other }
+        Mem (Start other name others) journal → Mem (Commit other results) journal → Finishes id results →
+        job ≡ other }
 {}

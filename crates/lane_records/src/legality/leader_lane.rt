@@ -4,7 +4,7 @@ ghost use Rattle.std.specs.Prelude.{◌≡◌};
 ghost use Rattle.std.specs.List.{list_any, list_all};
 ghost use Rattle.lane_records.specs.LaneTests.{accepts, continues_report, continues_job, continues_with, finishes_job, leader_closes, is_waiting, may_continue, leader_lane_may};
 
-use super::history::{has_id, has_lanes, is_of_lane, opens, same_ids, same_job};
+use super::history::{has_id, has_lanes, is_of_lane, opens, same_ids};
 use crate::outcome::Outcome;
 use crate::record::Record;
 use dap_bytes::{Id, Name};
@@ -19,15 +19,16 @@ pub(super) fn leader_lane_may(lane: u8, x: &Record, earlier: &[Record]) -> bool
             has_lanes(*lanes, earlier) && *own == lane && lane < *lanes
         }
         Record::Accept(report) => {
-            is_of_lane(lane, &report.id, earlier) && !accepted(&report.name, &report.id, earlier)
+            is_of_lane(lane, &report.id, earlier)
+                && !was_accepted(&report.name, &report.id, earlier)
         }
         Record::Continue(name, job, steps) => {
             may_continue(lane, name, job, steps.as_slice(), earlier)
         }
         Record::Finish(job, outcomes) => {
-            continued_with(job, outcomes.as_slice(), earlier) && !finished(job, earlier)
+            was_continued_with(job, outcomes.as_slice(), earlier) && !was_job_finished(job, earlier)
         }
-        Record::LeaderClose(name, start, _) => !closed(name, *start, earlier),
+        Record::LeaderClose(name, start, _) => !was_closed(name, *start, earlier),
         _ => false,
     }
 }
@@ -44,7 +45,7 @@ fn may_continue(
 {
     job.lane == lane
         && job.incarnation == opens(earlier) as u64
-        && !continued(job, earlier)
+        && !was_continued(job, earlier)
         && are_waiting(name, steps, earlier)
 }
 
@@ -59,7 +60,7 @@ fn are_waiting(name: &Name, steps: &[Tagged<Step>], earlier: &[Record]) -> bool
 fn is_waiting(name: &Name, x: &Tagged<Step>, earlier: &[Record]) -> bool
     ensures { result ≡ is_waiting name.now earlier.now x.now }
 {
-    accepted(name, &x.id, earlier) && !report_continued(name, &x.id, earlier)
+    was_accepted(name, &x.id, earlier) && !was_report_continued(name, &x.id, earlier)
 }
 
 fn accepts(name: &Name, id: &Id, x: &Record) -> bool
@@ -71,7 +72,7 @@ fn accepts(name: &Name, id: &Id, x: &Record) -> bool
     }
 }
 
-fn accepted(name: &Name, id: &Id, earlier: &[Record]) -> bool
+fn was_accepted(name: &Name, id: &Id, earlier: &[Record]) -> bool
     ensures { result ≡ list_any (accepts name.now id.now) earlier.now }
 {
     earlier.iter().any(|x| accepts(name, id, x))
@@ -86,7 +87,7 @@ fn continues_report(name: &Name, id: &Id, x: &Record) -> bool
     }
 }
 
-fn report_continued(name: &Name, id: &Id, earlier: &[Record]) -> bool
+fn was_report_continued(name: &Name, id: &Id, earlier: &[Record]) -> bool
     ensures { result ≡ list_any (continues_report name.now id.now) earlier.now }
 {
     earlier.iter().any(|x| continues_report(name, id, x))
@@ -96,12 +97,12 @@ fn continues_job(job: &JobNo, x: &Record) -> bool
     ensures { result ≡ continues_job job.now x.now }
 {
     match x {
-        Record::Continue(_, other, _) => same_job(other, job),
+        Record::Continue(_, other, _) => *other == *job,
         _ => false,
     }
 }
 
-fn continued(job: &JobNo, earlier: &[Record]) -> bool
+fn was_continued(job: &JobNo, earlier: &[Record]) -> bool
     ensures { result ≡ list_any (continues_job job.now) earlier.now }
 {
     earlier.iter().any(|x| continues_job(job, x))
@@ -112,13 +113,13 @@ fn continues_with(job: &JobNo, outcomes: &[Tagged<Outcome>], x: &Record) -> bool
 {
     match x {
         Record::Continue(_, other, steps) => {
-            same_job(other, job) && same_ids(steps.as_slice(), outcomes)
+            *other == *job && same_ids(steps.as_slice(), outcomes)
         }
         _ => false,
     }
 }
 
-fn continued_with(job: &JobNo, outcomes: &[Tagged<Outcome>], earlier: &[Record]) -> bool
+fn was_continued_with(job: &JobNo, outcomes: &[Tagged<Outcome>], earlier: &[Record]) -> bool
     ensures { result ≡ list_any (continues_with job.now outcomes.now) earlier.now }
 {
     earlier.iter().any(|x| continues_with(job, outcomes, x))
@@ -128,12 +129,12 @@ fn finishes_job(job: &JobNo, x: &Record) -> bool
     ensures { result ≡ finishes_job job.now x.now }
 {
     match x {
-        Record::Finish(other, _) => same_job(other, job),
+        Record::Finish(other, _) => *other == *job,
         _ => false,
     }
 }
 
-fn finished(job: &JobNo, earlier: &[Record]) -> bool
+fn was_job_finished(job: &JobNo, earlier: &[Record]) -> bool
     ensures { result ≡ list_any (finishes_job job.now) earlier.now }
 {
     earlier.iter().any(|x| finishes_job(job, x))
@@ -148,7 +149,7 @@ fn closes(name: &Name, start: u64, x: &Record) -> bool
     }
 }
 
-fn closed(name: &Name, start: u64, earlier: &[Record]) -> bool
+fn was_closed(name: &Name, start: u64, earlier: &[Record]) -> bool
     ensures { result ≡ list_any (leader_closes name.now start) earlier.now }
 {
     earlier.iter().any(|x| closes(name, start, x))

@@ -3,7 +3,7 @@
 use super::{RECORDS, spelling};
 use crate::{Answered, Closed, Outcome, Record, Request, Response, StoredTask};
 use dap_bytes::{Bytes, Name};
-use dap_messages::{Code, Half, Items, JobNo, Reply, Report, Step, Tagged};
+use dap_messages::{Code, Half, Items, JobNo, Reply, Report, Spelled, Step, Tagged};
 use dap_tasks::SealKeys;
 use std::alloc::Global;
 use std::test::Fail;

@@ -8,4 +8,4 @@ add-requires-clause-held g c = rw (c.new-buckets.ensures.holds_nothing c.expect-
 
 pub add-requires-3-clause-held : goal.add-requires-3-clause-held
 add-requires-3-clause-held g c =
-    subst (IsSum toy_space) (sym (c.close-2.ensures.sum ∙ c.close.ensures.sum ∙ c.reject.ensures.sum)) c.add-2.ensures.held_again
+    subst (IsSum toy_space) (sym (c.close-2.ensures.sum_stays ∙ c.close.ensures.sum_stays ∙ c.reject.ensures.sum_stays)) c.add-2.ensures.held_again

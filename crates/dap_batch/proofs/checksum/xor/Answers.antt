@@ -1,6 +1,6 @@
 use Rattle.std.proofs.Common.{get_or, set, ap, ◌∙◌, arith}
 use Rattle.std.specs.Prelude.{bit_xor}
-use Rattle.dap_batch.proofs.Xor.{xor-more}
+use Rattle.dap_batch.specs.XorLaws.{xor-more}
 use Rattle.dap_batch.proofs.checksum.xor.Goals as goal
 
 pub loop-i-preserved : goal.loop-i-preserved

@@ -1,4 +1,4 @@
-use Rattle.dap_batch.proofs.Sums.{checksum_of-append}
+use Rattle.dap_batch.specs.ChecksumLaws.{checksum_of-append}
 use Rattle.dap_batch.proofs.laws.checksums_of_parts_join.Goals as goal
 
 pub returns : goal.returns

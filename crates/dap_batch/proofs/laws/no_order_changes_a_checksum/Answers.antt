@@ -1,4 +1,4 @@
-use Rattle.dap_batch.proofs.Sums.{checksum_of-middle}
+use Rattle.dap_batch.specs.ChecksumLaws.{checksum_of-middle}
 use Rattle.dap_batch.proofs.laws.no_order_changes_a_checksum.Goals as goal
 
 pub returns : goal.returns

@@ -3,7 +3,7 @@ use Rattle.std.specs.Int.{w32, w64, to_be_bytes}
 use Rattle.std.proofs.lemmas.Result.{IfOk-equal}
 use Rattle.dap_messages.specs.declared.message.Message.TheVariants.{ShareReq}
 use Rattle.dap_messages.specs.Messages.{share_req}
-use Rattle.dap_messages.proofs.Appends.{four}
+use Rattle.dap_messages.specs.AppendLaws.{four}
 use Rattle.dap_messages.proofs.message.put_share_req.Goals as goal
 
 pub returns : goal.returns

@@ -2,7 +2,7 @@ use Rattle.std.proofs.Common.{arith, ◌∙◌}
 use Rattle.std.proofs.lemmas.Grind.{common_steps}
 use Rattle.std.proofs.lemmas.List.Elements.{All-push}
 use Rattle.dap_tasks.specs.Task.{IsTask}
-use Rattle.dap_tasks.proofs.DistinctLemmas.{AreDistinct-push}
+use Rattle.dap_tasks.specs.DistinctLaws.{AreDistinct-push}
 use Rattle.dap_tasks.proofs.TasksLemmas.{tasks_go}
 use Rattle.dap_tasks.proofs.file.tasks.Goals as goal
 

@@ -1,7 +1,7 @@
 use Rattle.std.proofs.Common.{ℕ, List, [], ◌∷◌, ◌++◌, length}
 use Rattle.std.specs.Int.{w64, to_be_bytes}
 use Rattle.std.proofs.lemmas.Result.{IfOk-equal}
-use Rattle.dap_messages.proofs.Appends.{four}
+use Rattle.dap_messages.specs.AppendLaws.{four}
 use Rattle.lane_records.specs.Records.{answer_fields}
 use Rattle.lane_records.specs.Batch.{answered}
 use Rattle.lane_records.proofs.fronts.put_answer.Goals as goal

@@ -1,4 +1,4 @@
-use Rattle.std.proofs.Common.{◌≡◌, Err, sym, ap, ◌∙◌, subst}
+use Rattle.std.proofs.Common.{◌≡◌, Err, None, sym, ap, ◌∙◌, subst}
 use Rattle.std.proofs.lemmas.Result.{err_from_is_err_and}
 use Rattle.std.specs.FinMap as map
 use Rattle.batch_shards.specs.declared.bucket.Bucket.{Bucket}
@@ -91,3 +91,21 @@ returns-clause-held_again g c =
     ap (λ m. bucket_of m name start) same ∙ not_held c.self.inside.buckets.entries now name start c.self.view_is c.in_default.ensures.value in
     kept-out space c.keep.result before c.keep.new.self name start c.add-2.new.self c.keep.ensures.ok c.keep.ensures.err
     (subst (λ s. IsSum s c.add-2.new.self.sum) c.space-space.ensures c.in_ok-add.ensures.held_again) (subst (λ (b : Bucket). IsSum space b.sum) (sym none) tt)
+
+nothing_held : (b : Bucket) → b ≡ nothing → b.sum ≡ None
+nothing_held b is = ap (λ (x : Bucket). x.sum) is
+
+pub returns-in-Some-clause-memory : goal.returns-in-Some-clause-memory
+returns-in-Some-clause-memory g c full =
+    let is = held c.self.inside.buckets.entries c.args.self.now c.args.name.now c.args.start c.in-Some.bucket.now c.self.view_is c.in-Some.ensures.value in
+    ap (λ (b : Bucket). b.sum) is ∙ c.add.ensures.memory full
+
+pub returns-clause-memory : goal.returns-clause-memory
+returns-clause-memory g c full =
+    nothing_held (bucket_of c.args.self.now c.args.name.now c.args.start)
+    (not_held c.self.inside.buckets.entries c.args.self.now c.args.name.now c.args.start c.self.view_is c.in_default.ensures.value)
+
+pub returns-in_err-add-clause-memory : goal.returns-in_err-add-clause-memory
+returns-in_err-add-clause-memory g c full =
+    nothing_held (bucket_of c.args.self.now c.args.name.now c.args.start)
+    (not_held c.self.inside.buckets.entries c.args.self.now c.args.name.now c.args.start c.self.view_is c.in_default.ensures.value)

@@ -2,7 +2,7 @@ use Rattle.std.proofs.Common.{◌≡◌, Ok, true, sym, ap, ◌∙◌, refl, sub
 use Rattle.batch_shards.specs.declared.bucket.Bucket.{Bucket}
 use Rattle.batch_shards.specs.Bucket.{closed_for_good, nothing}
 use Rattle.batch_shards.specs.Batches.{bucket_of, changed}
-use Rattle.batch_shards.proofs.Kept.{held, not_held, not_lent, not_closed, written, rewritten, some-found, closed_for_good-same, kept-sum}
+use Rattle.batch_shards.proofs.Kept.{absent, held, not_held, not_lent, not_closed, written, rewritten, some-found, closed_for_good-same, kept-sum}
 use Rattle.batch_shards.proofs.buckets.Buckets.close.Goals as goal
 
 pub returns-in-Some-clause-ok : goal.returns-in-Some-clause-ok
@@ -16,8 +16,8 @@ returns-in-Some-clause-ok c =
     written es (c.get_mut.follows.lender wrote).entries now name start wrote c.self.view_is ((c.get_mut.follows.holds wrote).3 (some-found _ c.in-Some.bucket.now c.in-Some.ensures.value)).0
     ∙ ap (changed now name start) (c.close.ensures ∙ ap closed_for_good (sym is))
 
-pub returns-in-Some-clause-again : goal.returns-in-Some-clause-again
-returns-in-Some-clause-again c closed =
+pub returns-in-Some-clause-stays_closed : goal.returns-in-Some-clause-stays_closed
+returns-in-Some-clause-stays_closed c closed =
     let es = c.self.inside.buckets.entries in
     let now = c.args.self.now in
     let name = c.args.name.now in
@@ -38,15 +38,18 @@ returns-in-Ok-clause-ok c =
     ∙ ap (λ m. changed m name start c.close-2.new.self) (not_lent c.self.inside.buckets c.get_mut.follows.lender-at-none now c.get_mut.follows.holds-at-none c.self.view_is)
     ∙ ap (changed now name start) (c.close-2.ensures ∙ ap closed_for_good (c.new-bucket.ensures ∙ sym none))
 
-pub returns-in-Ok-clause-again : goal.returns-in-Ok-clause-again
-returns-in-Ok-clause-again c closed =
+pub returns-in-Ok-clause-stays_closed : goal.returns-in-Ok-clause-stays_closed
+returns-in-Ok-clause-stays_closed c closed =
     absurd (not_closed (bucket_of c.args.self.now c.args.name.now c.args.start)
     (not_held c.self.inside.buckets.entries c.args.self.now c.args.name.now c.args.start c.self.view_is c.in_default.ensures.value) closed)
 
-pub returns-in-Some-clause-sum : goal.returns-in-Some-clause-sum
-returns-in-Some-clause-sum c =
+pub returns-in-Some-clause-sum_stays : goal.returns-in-Some-clause-sum_stays
+returns-in-Some-clause-sum_stays c =
     kept-sum {E = Unit {0}} (Ok tt) c.args.self.now _ c.args.name.now c.args.start (closed_for_good (bucket_of c.args.self.now c.args.name.now c.args.start)) (returns-in-Some-clause-ok c) tt refl
 
-pub returns-in-Ok-clause-sum : goal.returns-in-Ok-clause-sum
-returns-in-Ok-clause-sum c =
+pub returns-in-Ok-clause-sum_stays : goal.returns-in-Ok-clause-sum_stays
+returns-in-Ok-clause-sum_stays c =
     kept-sum {E = Unit {0}} (Ok tt) c.args.self.now c.keep.new.self c.args.name.now c.args.start (closed_for_good (bucket_of c.args.self.now c.args.name.now c.args.start)) (returns-in-Ok-clause-ok c) tt refl
+
+pub returns-in-Err-clause-memory : goal.returns-in-Err-clause-memory
+returns-in-Err-clause-memory c = absent c.self.inside.buckets.entries c.args.self.now c.args.name.now c.args.start c.self.view_is c.in_default.ensures.value

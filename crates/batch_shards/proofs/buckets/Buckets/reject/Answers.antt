@@ -3,7 +3,7 @@ use Rattle.std.proofs.lemmas.Result.{err_from_is_err_and}
 use Rattle.batch_shards.specs.declared.bucket.Bucket.{Bucket}
 use Rattle.batch_shards.specs.Bucket.{with_rejected, nothing, Opens}
 use Rattle.batch_shards.specs.Batches.{bucket_of, changed}
-use Rattle.batch_shards.proofs.Kept.{held, not_held, not_lent, written, rewritten, some-found, opens-new, on-ok, on-err, kept-sum}
+use Rattle.batch_shards.proofs.Kept.{absent, held, not_held, not_lent, written, rewritten, some-found, opens-new, on-ok, on-err, kept-sum}
 use Rattle.batch_shards.proofs.buckets.Buckets.reject.Goals as goal
 
 pub returns-in-Some-clause-closed : goal.returns-in-Some-clause-closed
@@ -53,13 +53,22 @@ returns-in_err-reject-clause-closed c =
     let gives = err_from_is_err_and c.from_residual.result c.from_residual.ensures.1 in
     rw (gives.1, gives.2) (subst (λ (b : Bucket). Opens (Err c.in_err-reject.field-0.0) b.closed) (c.new-bucket.ensures ∙ sym none) c.in_err-reject.ensures.closed)
 
-pub returns-in-Some-clause-sum : goal.returns-in-Some-clause-sum
-returns-in-Some-clause-sum c =
+pub returns-in-Some-clause-sum_stays : goal.returns-in-Some-clause-sum_stays
+returns-in-Some-clause-sum_stays c =
     kept-sum c.reject.result c.args.self.now _ c.args.name.now c.args.start (with_rejected (bucket_of c.args.self.now c.args.name.now c.args.start))
     (returns-in-Some-clause-ok c) (returns-in-Some-clause-err c) refl
 
-pub returns-clause-sum : goal.returns-clause-sum
-returns-clause-sum c =
+pub returns-clause-sum_stays : goal.returns-clause-sum_stays
+returns-clause-sum_stays c =
     let now = c.args.self.now in
     kept-sum c.keep.result now c.keep.new.self c.args.name.now c.args.start (with_rejected (bucket_of now c.args.name.now c.args.start)) (returns-clause-ok c)
     (on-err c.keep.result (λ e. e ∙ not_lent c.self.inside.buckets c.get_mut.follows.lender-at-none now c.get_mut.follows.holds-at-none c.self.view_is) c.keep.ensures.err) refl
+
+pub returns-in-Some-clause-memory : goal.returns-in-Some-clause-memory
+returns-in-Some-clause-memory c full = absurd (c.reject.ensures.memory full)
+
+pub returns-clause-memory : goal.returns-clause-memory
+returns-clause-memory c full = absent c.self.inside.buckets.entries c.args.self.now c.args.name.now c.args.start c.self.view_is c.in_default.ensures.value
+
+pub returns-in_err-reject-clause-memory : goal.returns-in_err-reject-clause-memory
+returns-in_err-reject-clause-memory c full = absent c.self.inside.buckets.entries c.args.self.now c.args.name.now c.args.start c.self.view_is c.in_default.ensures.value

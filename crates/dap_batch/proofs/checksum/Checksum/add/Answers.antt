@@ -1,7 +1,7 @@
 use Rattle.std.proofs.Common.{◌≡◌, sym, ap, ◌∙◌}
 use Rattle.sha2.specs.Sha256.{sha256}
 use Rattle.dap_batch.specs.Checksum.{checksum_of, xor_bytes}
-use Rattle.dap_batch.proofs.Sums.{checksum_of-push}
+use Rattle.dap_batch.specs.ChecksumLaws.{checksum_of-push}
 use Rattle.dap_batch.proofs.checksum.Checksum.add.Goals as goal
 
 pub returns-clause-identifiers : goal.returns-clause-identifiers

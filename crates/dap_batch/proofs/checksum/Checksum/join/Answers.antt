@@ -1,6 +1,6 @@
 use Rattle.std.proofs.Common.{sym, ap, ◌∙◌}
 use Rattle.dap_batch.specs.Checksum.{checksum_of, xor_bytes}
-use Rattle.dap_batch.proofs.Sums.{checksum_of-append}
+use Rattle.dap_batch.specs.ChecksumLaws.{checksum_of-append}
 use Rattle.dap_batch.proofs.checksum.Checksum.join.Goals as goal
 
 pub returns-clause-identifiers : goal.returns-clause-identifiers

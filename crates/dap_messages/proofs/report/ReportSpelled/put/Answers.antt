@@ -2,7 +2,7 @@ use Rattle.std.proofs.Common.{ℕ, List, ◌∷◌, ◌++◌, length}
 use Rattle.std.specs.Int.{w16, w32, w64, to_be_bytes}
 use Rattle.std.proofs.lemmas.Result.{IfOk-equal}
 use Rattle.dap_messages.specs.Messages.{report}
-use Rattle.dap_messages.proofs.Appends.{seven}
+use Rattle.dap_messages.specs.AppendLaws.{seven}
 use Rattle.dap_messages.proofs.report.ReportSpelled.put.Goals as goal
 
 pub returns : goal.returns

@@ -1,5 +1,5 @@
 use Rattle.std.proofs.lemmas.List.{map-append}
-use Rattle.dap_tasks.proofs.DistinctLemmas.{AreDistinct-push}
+use Rattle.dap_tasks.specs.DistinctLaws.{AreDistinct-push}
 use Rattle.dap_tasks.proofs.tasks.Tasks.push.Goals as goal
 
 pub invariant_of-self-2 : goal.invariant_of-self-2

@@ -1,6 +1,6 @@
 use Rattle.std.proofs.Common.{sym, ap, ◌∙◌}
 use Rattle.std.specs.FinMap as map
-use Rattle.dap_batch.proofs.Maps.{get-lookup}
+use Rattle.dap_batch.specs.MapLaws.{get-lookup}
 use Rattle.replay_table.specs.Reports.{Report}
 use Rattle.replay_table.proofs.Keys.{report_order-total}
 use Rattle.replay_table.proofs.table.ReplayTable.find.Goals as goal

@@ -1,6 +1,6 @@
 use Rattle.std.proofs.Common.{ap, ◌∙◌}
 use Rattle.std.specs.FinMap as map
-use Rattle.dap_batch.proofs.Maps.{inserted}
+use Rattle.dap_batch.specs.MapLaws.{inserted}
 use Rattle.replay_table.specs.Reports.{Report}
 use Rattle.replay_table.proofs.Keys.{report_order-total, report_order-same}
 use Rattle.replay_table.proofs.table.ReplayTable.put.Goals as goal

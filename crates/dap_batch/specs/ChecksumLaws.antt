@@ -3,7 +3,7 @@ use Rattle.std.proofs.Common.{◌≡◌, ℕ, List, [], ◌∷◌, ◌++◌, len
 use Rattle.sha2.specs.Sha256.{sha256}
 use Rattle.sha2.proofs.Facts256.{length-sha256}
 use Rattle.dap_batch.specs.Checksum.{xor_bytes, no_checksum, checksum_of}
-use Rattle.dap_batch.proofs.Xor.{xor_bytes-comm, xor_bytes-assoc, xor_bytes-undo, xor_bytes-zeros, length-xor_bytes}
+use Rattle.dap_batch.specs.XorLaws.{xor_bytes-comm, xor_bytes-assoc, xor_bytes-undo, xor_bytes-zeros, length-xor_bytes}
 
 pub length-checksum_of : (ids : List (List ℕ)) → length (checksum_of ids) ≡ 32
 length-checksum_of [] = refl
