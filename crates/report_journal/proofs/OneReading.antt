@@ -1,9 +1,10 @@
 -- A file stands for one list of records at most, or is no journal.
-use Rattle.std.proofs.Common.{◌≡◌, ◌≢◌, inl, inr, ℕ, ◌+◌, ◌<◌, ◌^◌, List, [], ◌∷◌, ◌++◌, length, get_or, take, drop, refl, sym, ◌∙◌, ap, arith, append_assoc, length-append, length-drop, take-append-drop}
+use Rattle.std.proofs.Common.{◌≡◌, ◌≢◌, inl, inr, ℕ, ◌+◌, ◌≤◌, ◌<◌, ◌^◌, List, [], ◌∷◌, ◌++◌, length, get_or, take, drop, refl, sym, ◌∙◌, ap, arith, append_assoc, length-append, length-drop, take-append-drop}
 use Rattle.std.proofs.lemmas.List.{take_at, drop_at, get_or-drop}
 use Rattle.std.specs.Int.{to_be_bytes, w32}
 use Rattle.report_journal.specs.Journal.{framed, body, block, blocks, all_records, IsBlock, AreBlocks, Closed, Stands, NoJournal}
 use Rattle.report_journal.specs.Laws.{OneReading}
+use Rattle.report_journal.specs.Reading.{ClosedIn, StandsIn}
 use Rattle.report_journal.proofs.Fresh.{small_none}
 use Rattle.report_journal.proofs.Splits.{same_number, same_framed}
 
@@ -120,5 +121,25 @@ none_once q q' c a b =
     ∙ same_place a.parts b.parts (drop q c) (drop q' c) a.are b.are (rest_some q c a.within) (rest_some q' c b.within) a.none b.none (whole_broken q c a ∙ sym (whole_broken q' c b))
     ∙ b.place
 
+no_blocks : (parts : List (List (List ℕ))) → length (blocks parts) ≡ 0 → length parts ≡ 0
+no_blocks [] is = refl
+no_blocks (p ∷ parts) is = absurd (omega (arith, is))
+
+few_blocks : (rs : List (List ℕ)) (q n : ℕ) (c : List ℕ) → ClosedIn rs q n c → length c ≤ 1 → n ≡ 0
+few_blocks rs q n c counted short =
+    let closed = counted.closed in
+    sym counted.count ∙ no_blocks closed.parts (omega (arith, closed.place, closed.within, short))
+
+count_once : (n n' : ℕ) (rs rs' : List (List ℕ)) (c : List ℕ) → StandsIn rs n c → StandsIn rs' n' c → n ≡ n'
+count_once n n' rs rs' c (inl a) (inl b) =
+    let x = a.1.closed in
+    let y = b.1.closed in
+    sym a.1.count
+    ∙ ap length (same_parts x.parts y.parts (drop a.0 c) (drop b.0 c) x.are y.are (behind_shut rs a.0 c x) (behind_shut rs' b.0 c y) (whole rs a.0 c x ∙ sym (whole rs' b.0 c y)))
+    ∙ b.1.count
+count_once n n' rs rs' c (inl a) (inr b) = few_blocks rs a.0 n c a.1 b.2 ∙ sym b.1
+count_once n n' rs rs' c (inr a) (inl b) = a.1 ∙ sym (few_blocks rs' b.0 n' c b.1 a.2)
+count_once n n' rs rs' c (inr a) (inr b) = a.1 ∙ sym b.1
+
 pub one_reading : OneReading
-one_reading = record { once = stands_once; place = none_once; apart = stands_or_none }
+one_reading = record { once = stands_once; place = none_once; apart = stands_or_none; count = count_once }

@@ -1,6 +1,6 @@
 -- What a reader of a journal has behind it, and what an opening leaves.
-use Rattle.std.specs.Prelude.{◌≡◌, ℕ, ◌<◌, ◌==◌, Bool, true, false, List, [], ◌∷◌, length, take, Option, Some, if◌then◌else◌}
-use Rattle.report_journal.specs.Journal.{AreBlocks, all_records, blocks, Stands}
+use Rattle.std.specs.Prelude.{◌≡◌, ◌⊎◌, ℕ, ◌<◌, ◌≤◌, ◌==◌, Bool, true, false, List, [], ◌∷◌, length, take, Option, Some, if◌then◌else◌}
+use Rattle.report_journal.specs.Journal.{AreBlocks, all_records, blocks, Closed, Stands}
 
 -- blocks of these records stand up to the place q, and at least a byte behind them
 pub record Behind (records : List (List ℕ)) (q : ℕ) (file : List ℕ) : Type 0 where
@@ -10,6 +10,15 @@ pub record Behind (records : List (List ℕ)) (q : ℕ) (file : List ℕ) : Type
   pub place : length (blocks parts) ≡ q
   pub front : take q file ≡ blocks parts
   pub within : q < length file
+
+-- n blocks of these records stand up to the place q, where a gate is shut
+pub record ClosedIn (records : List (List ℕ)) (q n : ℕ) (file : List ℕ) : Type 0 where
+  pub closed : Closed records q file
+  pub count : length closed.parts ≡ n
+
+-- The file stands for these records, in n blocks.
+abbrev pub StandsIn : List (List ℕ) → ℕ → List ℕ → Type 0
+StandsIn records n file = ((q : ℕ) × ClosedIn records q n file) ⊎ ((records ≡ []) × (n ≡ 0) × (length file ≤ 1))
 
 -- a file that stands for all that what is held stands for
 abbrev pub SameRecords : Option (List ℕ) → List ℕ → Type 0

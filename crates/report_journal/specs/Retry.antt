@@ -1,5 +1,5 @@
 -- What a call that goes on through stops promises, and how one call on a journal follows another.
-use Rattle.std.proofs.Common.{◌≡◌, ◌⊎◌, ◌≤◌, ◌<◌, ◌-◌, ◌+◌, ◌^◌, inl, inr, ⊎_elim, ℕ, min, List, ◌++◌, length, Vec, ◌∙◌, ap, subst, arith, length-append}
+use Rattle.std.proofs.Common.{◌≡◌, ◌⊎◌, ◌≤◌, ◌<◌, inl, inr, ⊎_elim, ℕ, List, ◌++◌, length, Vec, ◌∙◌, ap, subst, arith, length-append}
 use Rattle.std.proofs.lemmas.List.{length-map}
 use Rattle.std.specs.declared.alloc.Global.{Global}
 use Rattle.dap_disk.specs.Disk.{LeavesOnly}

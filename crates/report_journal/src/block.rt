@@ -11,7 +11,7 @@ use std::alloc::{AllocError, Global};
 pub const MAX_BLOCK: usize = 16_777_216;
 
 /// The length of the records behind their lengths.
-fn body_len(records: &[Vec<u8>]) -> usize
+pub(crate) fn body_len(records: &[Vec<u8>]) -> usize
     requires { length (body (contents records.now)) ≤ MAX_BLOCK }
     ensures { result ≡ length (body (contents records.now)) }
 {
@@ -34,7 +34,8 @@ pub(crate) fn block_bytes(alloc: Global, records: &[Vec<u8>]) -> Result<Vec<u8>,
     Ok(out)
 }
 
-fn put_records(out: &mut Vec<u8>, records: &[Vec<u8>]) -> Result<(), AllocError>
+/// Appends the records behind their lengths.
+pub(crate) fn put_records(out: &mut Vec<u8>, records: &[Vec<u8>]) -> Result<(), AllocError>
     requires { length (body (contents records.now)) ≤ MAX_BLOCK }
     ensures { OnOk result (out.new.items ≡ out.old.items ++ body (contents records.now)) }
 {

@@ -2,7 +2,7 @@
 ghost use Rattle.std.specs.Prelude.{◌≡◌, ◌≢◌, ◌⊎◌, ◌≤◌, ◌<◌, ◌+◌, ◌^◌, ◌++◌, [], List, ℕ, true, false, length, drop, take, slice_index, IfOk, OnOk, IfErr, IfSome, MatchOption, None, Err, Vec};
 ghost use Rattle.report_journal.specs.Journal.{framed, body, block, Closed, NoJournal, IsBlock};
 ghost use Rattle.report_journal.specs.Log.{contents};
-ghost use Rattle.report_journal.specs.Reading.{Behind};
+ghost use Rattle.report_journal.specs.Reading.{Behind, ClosedIn};
 
 use crate::{LogFault, MAX_BLOCK};
 use std::alloc::{AllocError, Global};
@@ -78,6 +78,30 @@ fn rest_of(file: &[u8], at: usize) -> &[u8]
     &file[at..]
 }
 
+/// The records of a file, the place of the gate behind them, and how many blocks they stand in.
+pub(crate) fn parse_blocks(
+    alloc: Global,
+    file: &[u8],
+) -> Result<(Vec<Vec<u8>>, usize, usize), LogFault>
+    requires some { 0 < length file.now }
+    requires used { length file.now ≤ 1 → slice_index file.now 0 ≢ 1 }
+    ensures ok { IfOk result (λ r. ClosedIn (contents r.0.items) r.1 r.2 file.now) }
+    ensures none { (at : ℕ) → result ≡ Err (LogFault.NotAJournal at) → NoJournal at file.now }
+    ensures up { result ≡ Err LogFault.Down → ⊥ }
+{
+    let mut records = Vec::new(alloc);
+    let mut at = 0;
+    let mut blocks = 0;
+    while file[at] == 1 {
+        match next_block(alloc, rest_of(file, at), &mut records)? {
+            Some(n) => at += n,
+            None => return Err(LogFault::NotAJournal { at: at as u64 }),
+        }
+        blocks += 1;
+    }
+    Ok((records, at, blocks))
+}
+
 /// The records of a file, and the place of the gate behind them.
 pub(crate) fn parse(alloc: Global, file: &[u8]) -> Result<(Vec<Vec<u8>>, usize), LogFault>
     requires some { 0 < length file.now }
@@ -86,13 +110,8 @@ pub(crate) fn parse(alloc: Global, file: &[u8]) -> Result<(Vec<Vec<u8>>, usize),
     ensures none { (at : ℕ) → result ≡ Err (LogFault.NotAJournal at) → NoJournal at file.now }
     ensures up { result ≡ Err LogFault.Down → ⊥ }
 {
-    let mut records = Vec::new(alloc);
-    let mut at = 0;
-    while file[at] == 1 {
-        match next_block(alloc, rest_of(file, at), &mut records)? {
-            Some(n) => at += n,
-            None => return Err(LogFault::NotAJournal { at: at as u64 }),
-        }
+    match parse_blocks(alloc, file) {
+        Ok((records, at, _)) => Ok((records, at)),
+        Err(fault) => Err(fault),
     }
-    Ok((records, at))
 }

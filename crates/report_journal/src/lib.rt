@@ -10,12 +10,17 @@ mod laws;
 mod log;
 mod moves;
 mod opening;
+mod packing;
+mod reader;
 mod retry;
 
 pub use block::MAX_BLOCK;
 pub use fault::{AppendFault, LogFault, RestartFault};
 pub use laws::reading_law;
 pub use log::{Log, OpenRefused};
+pub use opening::read_into;
+pub use packing::{fitting, put_block};
+pub use reader::{Blocks, ReadOnlyFault, read_blocks, read_only};
 
 #[cfg(test)]
 mod tests;

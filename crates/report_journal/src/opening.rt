@@ -12,7 +12,7 @@ use dap_disk::{Disk, Down, StoreFault, cut_synced, write_synced};
 use std::alloc::Global;
 
 /// Fills a buffer from a place on, as far as the disk goes, and says how far.
-fn read_into<D: Disk>(disk: &mut D, buf: &mut [u8]) -> Result<usize, Down>
+pub fn read_into<D: Disk>(disk: &mut D, buf: &mut [u8]) -> Result<usize, Down>
     requires { IsTrue (D.up disk.old) }
     ensures within { IfOk result (λ n. n ≤ length buf.old) }
     ensures told { IfOk result (λ n. Tells (D.holds disk.old) (λ c. (take n buf.new ≡ take n c) × (n ≤ length c) × (length buf.old ≤ length c → n ≡ length buf.old))) }
@@ -38,7 +38,7 @@ fn read_into<D: Disk>(disk: &mut D, buf: &mut [u8]) -> Result<usize, Down>
 }
 
 /// All that the disk holds.
-fn read_all<D: Disk>(alloc: Global, disk: &mut D) -> Result<Vec<u8>, LogFault>
+pub(crate) fn read_all<D: Disk>(alloc: Global, disk: &mut D) -> Result<Vec<u8>, LogFault>
     requires { IsTrue (D.up disk.old) }
     ensures told { IfOk result (λ v. Tells (D.holds disk.old) (λ c. v.items ≡ c)) }
     ensures same { D.holds disk.new ≡ D.holds disk.old }
@@ -116,7 +116,7 @@ fn make<D: Disk>(disk: &mut D, size: usize) -> Result<(), StoreFault>
 }
 
 /// Whether a file is empty or the byte 1, and so stands for no records as it is.
-fn is_fresh(file: &[u8]) -> bool
+pub(crate) fn is_fresh(file: &[u8]) -> bool
     ensures is { result ≡ is_fresh file.now }
     ensures fresh { result ≡ true → length file.now ≤ 1 }
     ensures used { result ≡ false → (0 < length file.now) × (length file.now ≤ 1 → slice_index file.now 0 ≢ 1) }

@@ -241,6 +241,63 @@ fn files_are_read_by_their_gates(rt: HostRuntime) -> Result<(), Fail> {
     Ok(())
 }
 
+/// How many records a reading finds from a place on, in how many blocks, or why it is refused. The bytes stay.
+fn reads_from(
+    rt: &impl Abort,
+    alloc: Global,
+    bytes: &[u8],
+    start: u64,
+) -> Result<Result<(usize, usize), ReadOnlyFault>, Fail> {
+    let mut read = disk(alloc, bytes, &[])?;
+    let outcome = read_blocks(alloc, &mut read, start);
+    assert_eq!(rt; read.bytes(), bytes);
+    match outcome {
+        Ok(blocks) => Ok(Ok((blocks.records.len(), blocks.count))),
+        Err(fault) => Ok(Err(fault)),
+    }
+}
+
+#[test]
+fn a_reading_counts_blocks_and_writes_nothing(rt: HostRuntime) -> Result<(), Fail> {
+    let alloc = rt.alloc();
+    for (file, start, want) in [
+        ([].as_slice(), 0, Ok((0, 0))),
+        (&[1], 0, Ok((0, 0))),
+        (&ONE, 0, Ok((1, 1))),
+        (&TWO, 0, Ok((3, 2))),
+        (&TWO, 13, Ok((2, 1))),
+        (&TWO, 28, Ok((0, 0))),
+        (&TWO, 30, Ok((0, 0))),
+        (&TWO[..28], 0, Err(ReadOnlyFault::NotAJournal { at: 13 })),
+        (&[1, 0], 0, Err(ReadOnlyFault::NotAJournal { at: 0 })),
+    ] {
+        assert_eq!(rt;
+            reads_from(&rt, alloc, file, start)?,
+            want,
+            "{file:?} {start}"
+        );
+    }
+    Ok(())
+}
+
+#[test]
+fn a_reading_ends_where_the_disk_stops(rt: HostRuntime) -> Result<(), Fail> {
+    let alloc = rt.alloc();
+    let image = Image::Old;
+    for (call, want) in [(1, None), (2, None), (3, Some(3))] {
+        let mut read = disk(alloc, &TWO, &[Stop { call, image }])?;
+        let found = match read_only(alloc, &mut read) {
+            Ok(records) => Some(records.len()),
+            Err(fault) => {
+                assert_eq!(rt; fault, ReadOnlyFault::Down);
+                None
+            }
+        };
+        assert_eq!(rt; found, want, "{call}");
+    }
+    Ok(())
+}
+
 fn crosses_threads<T: Send>() {}
 
 /// A log goes to another thread where its disk does.
