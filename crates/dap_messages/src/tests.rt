@@ -73,6 +73,14 @@ const SHARE_RESP: [u8; 48] = [
     13, 14, 15, 16, 17, 18, 19, 20, 21, 22, 23, 24, 25, 26, 27, 28, 29, 30, 31, 32,
 ];
 
+/// The share `9` of the batch of `a` at 0.
+const SHARE: [u8; 17] = [6, 1, 0x61, 0, 0, 0, 0, 0, 0, 0, 0, 0, 0, 0, 0, 1, 9];
+
+/// The latest time, and the one behind it.
+const LATEST: [u8; 8] = [0x0d, 0xe0, 0xb6, 0xb3, 0xa7, 0x63, 0xff, 0xff];
+
+const LATE: [u8; 8] = [0x0d, 0xe0, 0xb6, 0xb3, 0xa7, 0x64, 0, 0];
+
 /// The place of the fault in a message, if it has one.
 fn fault_of(alloc: Global, bytes: &[u8]) -> Result<Option<usize>, Fail> {
     match read_message(alloc, bytes) {
@@ -176,9 +184,232 @@ fn each_form_is_read_and_written_again(rt: HostRuntime) -> Result<(), Fail> {
         SHARE_REQ.as_slice(),
         SHARE_RESP.as_slice(),
         [6, 1, 0x61, 0, 0, 0, 0, 0, 0, 0, 0, 1, 0, 0, 0, 2].as_slice(),
-        [6, 1, 0x61, 0, 0, 0, 0, 0, 0, 0, 0, 0, 0, 0, 0, 1, 9].as_slice(),
+        SHARE.as_slice(),
     ] {
         assert_eq!(rt; again(alloc, bytes)?.as_slice(), bytes);
+    }
+    Ok(())
+}
+
+/// The bytes up to a place, others, and from another place on.
+fn spliced(
+    alloc: Global,
+    bytes: &[u8],
+    at: usize,
+    part: &[u8],
+    from: usize,
+) -> Result<Vec<u8>, Fail> {
+    let mut out = Vec::new(alloc);
+    for byte in bytes.iter().take(at).chain(part.iter()) {
+        out.push(*byte)?;
+    }
+    for byte in bytes.iter().skip(from) {
+        out.push(*byte)?;
+    }
+    Ok(out)
+}
+
+/// A length of four bytes, and that many bytes.
+fn field(alloc: Global, len: u32) -> Result<Vec<u8>, Fail> {
+    let mut out = len.to_be_bytes().to_vec(alloc)?;
+    for _ in 0..len {
+        out.push(7)?;
+    }
+    Ok(out)
+}
+
+#[test]
+fn fields_of_the_greatest_length_are_read(rt: HostRuntime) -> Result<(), Fail> {
+    let alloc = rt.alloc();
+    for (bytes, at, from, longest) in [
+        (INIT_REQ.as_slice(), 46, 50, 32_000),
+        (INIT_REQ.as_slice(), 50, 54, 32_000),
+        (INIT_RESP.as_slice(), 37, 44, 1_024),
+        (SHARE.as_slice(), 12, 17, 16_384),
+    ] {
+        let text = spliced(alloc, bytes, at, &field(alloc, longest)?, from)?;
+        assert_eq!(rt; again(alloc, &text)?.as_slice(), text.as_slice());
+        let longer = spliced(
+            alloc,
+            bytes,
+            at,
+            &field(alloc, longest.wrapping_add(1))?,
+            from,
+        )?;
+        assert_eq!(rt; fault_of(alloc, &longer)?, Some(at));
+    }
+    for (at, from, longest) in [(28, 32, 32_000), (32, 38, 131_072), (38, 43, 32_000)] {
+        let text = spliced(alloc, &REPORT, at, &field(alloc, longest)?, from)?;
+        assert_eq!(rt; report_fault_of(alloc, &text)?, None);
+        let longer = spliced(
+            alloc,
+            &REPORT,
+            at,
+            &field(alloc, longest.wrapping_add(1))?,
+            from,
+        )?;
+        assert_eq!(rt; report_fault_of(alloc, &longer)?, Some(at));
+    }
+    assert_eq!(rt; (MOST_REPORT, MOST_MESSAGE), (195_143, 4_194_304));
+    Ok(())
+}
+
+#[test]
+fn the_latest_time_is_read(rt: HostRuntime) -> Result<(), Fail> {
+    let alloc = rt.alloc();
+    for (bytes, at, from) in [
+        (INIT_REQ.as_slice(), 38, 46),
+        (SHARE_REQ.as_slice(), 3, 11),
+        (SHARE_RESP.as_slice(), 3, 11),
+    ] {
+        let latest = spliced(alloc, bytes, at, &LATEST, from)?;
+        assert_eq!(rt; again(alloc, &latest)?.as_slice(), latest.as_slice());
+        let late = spliced(alloc, bytes, at, &LATE, from)?;
+        assert_eq!(rt; fault_of(alloc, &late)?, Some(at));
+    }
+    let latest = spliced(alloc, &REPORT, 18, &LATEST, 26)?;
+    assert_eq!(rt; report_fault_of(alloc, &latest)?, None);
+    let late = spliced(alloc, &REPORT, 18, &LATE, 26)?;
+    assert_eq!(rt; report_fault_of(alloc, &late)?, Some(18));
+    Ok(())
+}
+
+#[test]
+fn a_name_has_1_to_32_characters(rt: HostRuntime) -> Result<(), Fail> {
+    let alloc = rt.alloc();
+    for (len, place) in [(0, Some(18)), (1, None), (32, None), (33, Some(18))] {
+        let mut name = Vec::new(alloc);
+        name.push(len)?;
+        for _ in 0..len {
+            name.push(b'v')?;
+        }
+        let text = spliced(alloc, &INIT_REQ, 18, &name, 20)?;
+        assert_eq!(rt; fault_of(alloc, &text)?, place, "{len} characters");
+    }
+    Ok(())
+}
+
+/// Whether a message that spells what the arrays above say has its fields in their order.
+fn is_as_said(message: &Message) -> bool {
+    let job = JobNo {
+        lane: 2,
+        incarnation: 3,
+        counter: 4,
+    };
+    match message {
+        Message::InitReq(first, name, halves) => {
+            let [one] = halves.as_slice() else {
+                return false;
+            };
+            (first.lane, first.incarnation, first.counter) == (0, 1, 0)
+                && name.as_bytes() == b"v".as_slice()
+                && one.id == [0; 16]
+                && one.body.time == 10
+        }
+        Message::InitResp(of, steps) | Message::ContReq(of, steps) => {
+            let [one, two] = steps.as_slice() else {
+                return false;
+            };
+            let continued = match &one.body {
+                Step::Continued(prep) => prep.as_slice() == [7, 8, 9].as_slice(),
+                Step::Failed(_) => false,
+            };
+            *of == job && continued && matches!(two.body, Step::Failed(Code::VdafPrepError))
+        }
+        Message::ContResp(of, statuses) => {
+            let [one, two] = statuses.as_slice() else {
+                return false;
+            };
+            *of == job
+                && one.body == Status::Finished
+                && two.body == Status::Failed(Code::BatchCollected)
+        }
+        Message::ShareReq(name, start, count, checksum) => {
+            name.as_bytes() == b"a".as_slice()
+                && (*start, *count) == (3600, 3)
+                && checksum.as_slice() == &SHARE_REQ[15..]
+        }
+        Message::ShareResp(name, start, Reply::Mismatch(count, checksum)) => {
+            name.as_bytes() == b"a".as_slice()
+                && (*start, *count) == (3600, 3)
+                && checksum.as_slice() == &SHARE_REQ[15..]
+        }
+        Message::ShareResp(_, start, Reply::Share(share)) => {
+            *start == 0 && share.as_slice() == [9].as_slice()
+        }
+        Message::ShareResp(_, _, Reply::Small(_)) => false,
+    }
+}
+
+#[test]
+fn fields_are_in_their_order(rt: HostRuntime) -> Result<(), Fail> {
+    let alloc = rt.alloc();
+    for bytes in [
+        INIT_REQ.as_slice(),
+        INIT_RESP.as_slice(),
+        CONT_RESP.as_slice(),
+        SHARE_REQ.as_slice(),
+        SHARE_RESP.as_slice(),
+        SHARE.as_slice(),
+    ] {
+        match read_message(alloc, bytes) {
+            Ok(message) => assert!(rt; is_as_said(&message)),
+            Err(_) => return Err("not a message".into()),
+        }
+    }
+    Ok(())
+}
+
+/// The outcomes of so many reports, all of them finished.
+fn outcomes(alloc: Global, count: u8) -> Result<Vec<u8>, Fail> {
+    let mut out = spliced(alloc, &CONT_RESP, 18, &[0, count], 55)?;
+    for id in 0..count {
+        out.extend_from_slice(&[id; 16])?;
+        out.push(1)?;
+    }
+    Ok(out)
+}
+
+#[test]
+fn a_job_has_1_to_64_reports(rt: HostRuntime) -> Result<(), Fail> {
+    let alloc = rt.alloc();
+    for (count, place) in [(0, Some(18)), (1, None), (64, None), (65, Some(18))] {
+        let text = outcomes(alloc, count)?;
+        assert_eq!(rt; fault_of(alloc, &text)?, place, "{count} reports");
+    }
+    Ok(())
+}
+
+#[test]
+fn codes_have_their_bytes(rt: HostRuntime) {
+    for byte in 0..=255 {
+        let want = match byte {
+            0 => Some(Code::BatchCollected),
+            1 => Some(Code::ReportReplayed),
+            4 => Some(Code::HpkeDecryptError),
+            5 => Some(Code::VdafPrepError),
+            _ => None,
+        };
+        let found = Code::of_byte(byte);
+        assert_eq!(rt; found, want, "{byte}");
+        if let Some(code) = found {
+            assert_eq!(rt; code.byte(), byte);
+        }
+    }
+}
+
+#[test]
+fn faults_are_printed(rt: HostRuntime) -> Result<(), Fail> {
+    let alloc = rt.alloc();
+    assert_eq!(rt;
+        format!(in alloc; "{}", Form { at: 3 })?.as_str(),
+        "not of the form at byte 3"
+    );
+    for (fault, text) in [
+        (ReadFault::Form { at: 3 }, "not of the form at byte 3"),
+        (ReadFault::NoMemory, "no memory"),
+    ] {
+        assert_eq!(rt; format!(in alloc; "{fault}")?.as_str(), text);
     }
     Ok(())
 }
