@@ -36,6 +36,65 @@ fn a_lease_stands_for_sixteen_turns(rt: HostRuntime) -> Result<(), Fail> {
     };
     assert_eq!(rt; leases.submit(first, Stage::Finish, None), Err(stale));
     assert_eq!(rt; leases.jobs().len(), 1);
+    assert!(rt;
+        leases
+            .submit(first, Stage::Combine, Some(Stage::Finish))
+            .is_ok()
+    );
+    assert_eq!(rt; leases.lease(31, 3), Some(first));
+    Ok(())
+}
+
+/// The job of these numbers.
+fn numbered(lane: u8, incarnation: u64, counter: u64) -> JobNo
+    ensures { result ≡ record { lane = lane; incarnation = incarnation; counter = counter } }
+{
+    JobNo {
+        lane,
+        incarnation,
+        counter,
+    }
+}
+
+/// A job, and three that differ from it in one number alone.
+fn neighbours(alloc: Global) -> Result<Leases, AllocError> {
+    let mut leases = Leases::new(alloc);
+    leases.add(numbered(1, 1, 1))?;
+    leases.add(numbered(2, 1, 1))?;
+    leases.add(numbered(1, 2, 1))?;
+    leases.add(numbered(1, 1, 2))?;
+    Ok(leases)
+}
+
+#[test]
+fn jobs_that_differ_in_one_number_are_two(rt: HostRuntime) -> Result<(), Fail> {
+    let mut leases = neighbours(rt.alloc())?;
+    for job in [numbered(1, 1, 2), numbered(1, 2, 1), numbered(2, 1, 1)] {
+        assert!(rt;
+            leases
+                .submit(job, Stage::AwaitInit, Some(Stage::Combine))
+                .is_ok()
+        );
+        assert_eq!(rt; leases.lease(0, 0), Some(job));
+    }
+    assert_eq!(rt;
+        leases.submit(numbered(2, 2, 2), Stage::Combine, None),
+        Err(Stale { stands: None })
+    );
+    Ok(())
+}
+
+#[test]
+fn a_lane_may_have_many_jobs(rt: HostRuntime) -> Result<(), Fail> {
+    let mut leases = Leases::new(rt.alloc());
+    for counter in 0..100 {
+        let job = job(counter);
+        let Err(Stale { stands: None }) = leases.submit(job, Stage::Finish, None) else {
+            return Err("a job that is new".into());
+        };
+        leases.add(job)?;
+    }
+    assert_eq!(rt; leases.jobs().len(), 100);
     Ok(())
 }
 
@@ -78,4 +137,15 @@ fn the_oldest_job_comes_first(rt: HostRuntime) -> Result<(), Fail> {
     );
     assert_eq!(rt; leases.jobs().len(), 2);
     Ok(())
+}
+
+/// The value again. It may be moved to another thread, and shared with it.
+fn shared<T: Send + Sync>(value: T) -> T {
+    value
+}
+
+#[test]
+fn a_table_may_be_shared_with_workers(rt: HostRuntime) {
+    let leases = shared(Leases::new(rt.alloc()));
+    assert!(rt; leases.jobs().is_empty());
 }
