@@ -1,5 +1,5 @@
 -- What each call of a disk in memory makes of what it holds and of what may be left.
-use Rattle.std.proofs.Common.{◌≡◌, ◌⊎◌, inl, inr, ⊎_elim, ℕ, ◌+◌, ◌≤◌, List, [], ◌∷◌, ◌++◌, length, take, Some, Vec, true, refl, sym, ◌∙◌, ap, subst, arith, length-append}
+use Rattle.std.proofs.Common.{◌≡◌, ◌⊎◌, inl, inr, ⊎_elim, ℕ, ◌+◌, ◌≤◌, List, [], ◌∷◌, ◌++◌, length, take, Some, Vec, Bool, IsTrue, true, false, refl, sym, ◌∙◌, ap, subst, arith, length-append}
 use Rattle.std.proofs.lemmas.List.{take_all, take-append-le}
 use Rattle.std.proofs.lemmas.Bool.{cases_lt}
 use Rattle.std.specs.declared.alloc.Global.{Global}
@@ -10,9 +10,18 @@ use Rattle.dap_disk.specs.declared.event.Event.{Event}
 use Rattle.dap_disk.specs.declared.event.Event.TheVariants.{Wrote, Cut, Settled}
 use Rattle.dap_disk.specs.Images.{Change, Written, CutTo, Allowed, are_within}
 use Rattle.dap_disk.specs.ImageLaws.{allowed_is_reached}
-use Rattle.dap_disk.specs.History.{state_of, held_after, IsImage, WasImage, left_by, puts}
+use Rattle.dap_disk.specs.Moves.{waiting, settled}
+use Rattle.dap_disk.specs.History.{State, state_of, held_after, IsImage, WasImage, left_by, puts}
 use Rattle.dap_disk.specs.HistoryLaws.{laid_is, left_may_be}
-use Rattle.dap_disk.proofs.Pushes.{images_follow, held_is, synced_is, settled_held, settled_only}
+use Rattle.dap_disk.proofs.Pushes.{images_follow, held_is, state_is, settled_held, settled_state, settled_only}
+
+-- a disk that a call leaves as it was is up
+pub up_stays : (now was : Bool) → now ≡ was → IsTrue was → now ≡ false → ⊥
+up_stays now was same up down = absurd (cc (same, up, down))
+
+-- a state of these bytes and changes
+abbrev waiting_all : List ℕ → List Change → State
+waiting_all synced changes = record { synced = synced; pending = changes }
 
 module _ (first : List ℕ) (events : List Event) where
   elapses_none : Elapses (length events) (length events) (WasImage first events) (WasImage first events) (IsImage first events)
@@ -53,8 +62,10 @@ module _ (first first' : List ℕ) (events events' : List Event) (same : first' 
         (held_is first first' events events' (Wrote at v) (Written at v.items) same is (λ s. refl) ∙ laid_is at v.items (held_after first events) le
         ∙ ap (λ (b : List ℕ). written at b (held_after first events)) copy)
 
-    pub wrote_waits : (state_of first' events').synced ≡ (state_of first events).synced
-    wrote_waits = synced_is first first' events events' (Wrote at v) (Written at v.items) same is (λ s. refl)
+    pub wrote_waits : state_of first' events' ≡ waiting (Written at bytes) (state_of first events)
+    wrote_waits =
+        state_is first first' events events' (Wrote at v) (Written at v.items) same is (λ s. refl)
+        ∙ ap (λ (b : List ℕ). waiting (Written at b) (state_of first events)) copy
 
   module _ (len : ℕ) (is : events' ≡ events ++ Cut len ∷ []) where
     pub cut_images : are_within (length (state_of first' events').synced) (state_of first' events').pending ≡ true → Follows (Shortened len) (IsImage first events) (IsImage first' events')
@@ -63,15 +74,24 @@ module _ (first first' : List ℕ) (events events' : List Event) (same : first' 
     pub cut_done : Some (held_after first' events') ≡ of_told (take len) (Some (held_after first events))
     cut_done = ap Some (held_is first first' events events' (Cut len) (CutTo len) same is (λ s. refl))
 
-    pub cut_waits : (state_of first' events').synced ≡ (state_of first events).synced
-    cut_waits = synced_is first first' events events' (Cut len) (CutTo len) same is (λ s. refl)
+    pub cut_waits : state_of first' events' ≡ waiting (CutTo len) (state_of first events)
+    cut_waits = state_is first first' events events' (Cut len) (CutTo len) same is (λ s. refl)
 
   module _ (image : Image) (is : ((events' ≡ events) × ((state_of first events).pending ≡ [])) ⊎ (events' ≡ events ++ Settled image ∷ [])) where
     pub settle_time : Elapses (length events) (length events') (WasImage first events) (WasImage first' events') (IsImage first' events')
     settle_time = ⊎_elim (λ none. same_time events none.0 (elapses_none first events)) (push_time (Settled image)) is
 
+    pub settle_state : state_of first' events' ≡ settled image (state_of first events)
+    settle_state =
+        let s = state_of first events in
+        ap (λ (f : List ℕ). state_of f events') same
+        ∙ ⊎_elim
+        (λ none. ap (λ (es : List Event). state_of first es) none.0
+        ∙ ap (λ (es : List Change). waiting_all s.synced es) none.1 ∙ sym (ap (λ (es : List Change). waiting_all (puts image es s.synced) []) none.1))
+        (λ more. settled_state first events events' image more) is
+
     -- what is held then
-    pub left : held_after first' events' ≡ left_by image (state_of first events)
+    left : held_after first' events' ≡ left_by image (state_of first events)
     left =
         ap (λ (f : List ℕ). held_after f events') same
         ∙ ⊎_elim

@@ -1,3 +1,4 @@
 pub mod Calls
+pub mod Plans
 pub mod Pushes
 pub mod Rules

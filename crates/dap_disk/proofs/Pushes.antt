@@ -27,7 +27,7 @@ reaches_push (f ∷ es) e synced c r = let rest = reaches_push es e r.0 c r.2 in
 -- the call is a change, which waits for a sync
 module _ (first first' : List ℕ) (events events' : List Event) (e : Event) (change : Change) (same : first' ≡ first) (is : events' ≡ events ++ e ∷ [])
     (waits : (s : State) → after s e ≡ record { synced = s.synced; pending = s.pending ++ change ∷ [] }) where
-  state_is : state_of first' events' ≡ record { synced = (state_of first events).synced; pending = (state_of first events).pending ++ change ∷ [] }
+  pub state_is : state_of first' events' ≡ record { synced = (state_of first events).synced; pending = (state_of first events).pending ++ change ∷ [] }
   state_is = ap (λ (f : List ℕ). state_of f events') same ∙ ap (λ (es : List Event). state_of first es) is ∙ state_push first events e ∙ waits (state_of first events)
 
   pub synced_is : (state_of first' events').synced ≡ (state_of first events).synced

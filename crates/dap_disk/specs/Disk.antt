@@ -1,5 +1,7 @@
 -- What the calls of a disk do to the bytes that it holds, and what a stop may leave of them.
-use Rattle.std.specs.Prelude.{◌≡◌, ◌⊎◌, ℕ, ◌+◌, ◌≤◌, min, max, List, ◌++◌, length, take, drop, Option, Some, None, OnOk, Result}
+use Rattle.std.specs.Prelude.{◌≡◌, ◌⊎◌, ℕ, ◌+◌, ◌≤◌, min, max, List, ◌++◌, length, take, drop, Option, Some, None}
+use Rattle.dap_bytes.specs.Causes.{Counts}
+use Rattle.dap_disk.specs.Images.{Change}
 
 -- P of what is told, where it is told
 abbrev pub Tells : Option (List ℕ) → (List ℕ → Type 0) → Type 0
@@ -52,13 +54,26 @@ pub record LeavesOnly {D : Type 0} (moment : D → ℕ) (left_since : D → ℕ 
   -- for a run that began earlier
   pub before : (t : ℕ) (c : List ℕ) → t ≤ moment old → left_since new t c → left_since old t c ⊎ P c
 
--- a count is as it was where the call succeeds, and one more at most else
-pub record CountsOne {T E : Type 0} (before now : ℕ) (result : Result T E) : Type 0 where
-  pub none : OnOk result (now ≡ before)
-  pub one : now ≤ before + 1
+module _ {D : Type 0} (downs deads : D → ℕ) where
+  -- a call that isn't a restart moves the count of stops alone; `stopped` says that it answers a stop
+  pub record CountsStop (stopped : Type 0) (old new : D) : Type 0 where
+    pub stops : Counts stopped (downs old) (downs new)
+    pub no_death : deads new ≡ deads old
 
--- what a call is to the count of calls: it counts, it was refused for want of memory and doesn't count, or it is a restart
+  -- a restart moves the count of those that failed alone; `dead` says that it answers so
+  pub record CountsDeath (dead : Type 0) (old new : D) : Type 0 where
+    pub deaths : Counts dead (deads old) (deads new)
+    pub no_stop : downs new ≡ downs old
+
+  -- a restart with calls behind it moves each count where it answers so
+  pub record CountsRestart (stopped dead : Type 0) (old new : D) : Type 0 where
+    pub stops : Counts stopped (downs old) (downs new)
+    pub deaths : Counts dead (deads old) (deads new)
+
+-- what a call is to what decides where the disk stops: it looks, it makes a change, it syncs, it was refused for want of memory and doesn't count, or it is a restart
 pub data Move : Type 0 where
-  Called : Move
+  Looked : Move
+  Changed : Change → Move
+  Synced : Move
   Refused : Move
   Restarted : Move

@@ -4,7 +4,7 @@ use Rattle.std.proofs.lemmas.List.{append-nil, take_all, take_at, drop_at, take-
 use Rattle.std.proofs.lemmas.Bool.Decides.{nat_tests}
 use Rattle.std.proofs.lemmas.Bool.{cases_lt}
 use Rattle.dap_disk.specs.Disk.{Torn, Shortened, written}
-use Rattle.dap_disk.specs.Runs.{torn_same, shortened_same}
+use Rattle.dap_disk.specs.RunLaws.{torn_same, shortened_same}
 use Rattle.dap_disk.specs.Images.{Change, Written, CutTo}
 use Rattle.dap_disk.specs.ImageLaws.{reached_is_allowed}
 use Rattle.dap_disk.specs.Steps.{Takes, Reaches}

@@ -5,7 +5,7 @@ use Rattle.std.proofs.lemmas.List.FromFn.{length-map-range_with_len, get_or-map-
 use Rattle.std.proofs.lemmas.Bool.Decides.{nat_tests}
 use Rattle.std.proofs.lemmas.Bool.{cases_lt}
 use Rattle.std.specs.List.{range_with_len}
-use Rattle.dap_disk.specs.Runs.{torn_same}
+use Rattle.dap_disk.specs.RunLaws.{torn_same}
 use Rattle.dap_disk.specs.Images.{Change, Written, CutTo, least, greatest, Allowed, are_within}
 use Rattle.dap_disk.specs.Steps.{Reaches, StepsAreImages}
 

@@ -5,6 +5,6 @@ pub mod ImageLaws
 pub mod Images
 pub mod Moves
 pub mod Plan
-pub mod Runs
+pub mod RunLaws
 pub mod Steps
 pub mod StoreLaws

@@ -1,7 +1,10 @@
 -- How the calls of a disk in memory move its plan.
-use Rattle.std.specs.Prelude.{◌≡◌, ℕ, List, IsTrue, false}
-use Rattle.dap_disk.specs.Disk.{Move, Called, Refused, Restarted}
+use Rattle.std.specs.Prelude.{◌≡◌, ℕ, List, [], ◌∷◌, ◌++◌, IsTrue, false}
+use Rattle.dap_disk.specs.Disk.{Move, Looked, Changed, Synced, Refused, Restarted}
+use Rattle.dap_disk.specs.Images.{Change}
 use Rattle.dap_disk.specs.History.{State, state_of, held_after, left_by}
+use Rattle.dap_disk.specs.declared.image.Image.{Image}
+use Rattle.dap_disk.specs.declared.image.Image.TheVariants.{New}
 use Rattle.dap_disk.specs.Plan.{after_call, after_restart}
 use Rattle.dap_disk.specs.declared.plan.Plan.{Plan}
 use Rattle.dap_disk.specs.declared.mem_disk.MemDisk.{MemDisk}
@@ -18,11 +21,24 @@ held_by m = held_after m.store.first.items m.store.events.items
 abbrev pub stored : MemDisk → State
 stored m = state_of m.store.first.items m.store.events.items
 
--- A call that counts moves the plan one call on, and settles nothing where the disk stops at it. One that is refused leaves the plan and all that is stored. After a restart by the plan the disk holds what the last stop was to leave, and where it is dead all that is stored stays.
+-- with a change more that waits for a sync
+abbrev pub waiting : Change → State → State
+waiting change s = record { synced = s.synced; pending = s.pending ++ change ∷ [] }
+
+-- what a rule leaves is on the disk, and nothing waits for a sync
+abbrev pub settled : Image → State → State
+settled image s = record { synced = left_by image s; pending = [] }
+
+-- A call that counts moves the plan one call on. One that looks leaves all that is stored, a change waits for a sync also where the disk stops at it, and a sync settles all where the disk doesn't stop at it. One that is refused leaves the plan and all that is stored. A restart settles what the last stop was to leave, and where the disk is dead all that is stored stays.
 abbrev pub Moved : Move → MemDisk → MemDisk → Type 0
-Moved Called old new = (plan_of new ≡ after_call (plan_of old)) × ((plan_of new).up ≡ false → (stored new).synced ≡ (stored old).synced)
+Moved Looked old new = (plan_of new ≡ after_call (plan_of old)) × (stored new ≡ stored old)
+Moved (Changed change) old new = (plan_of new ≡ after_call (plan_of old)) × (stored new ≡ waiting change (stored old))
+Moved Synced old new =
+    (plan_of new ≡ after_call (plan_of old))
+    × (IsTrue (plan_of new).up → stored new ≡ settled New (stored old))
+    × ((plan_of new).up ≡ false → stored new ≡ stored old)
 Moved Refused old new = (plan_of new ≡ plan_of old) × (stored new ≡ stored old)
 Moved Restarted old new =
     (plan_of new ≡ after_restart (plan_of old))
-    × (IsTrue (plan_of new).up → held_by new ≡ left_by (plan_of old).image (stored old))
+    × (IsTrue (plan_of new).up → stored new ≡ settled (plan_of old).image (stored old))
     × ((plan_of new).up ≡ false → stored new ≡ stored old)

@@ -1,5 +1,5 @@
 -- When a disk in memory stops, and what its plan is after each call.
-use Rattle.std.specs.Prelude.{ℕ, ◌+◌, ◌-◌, ◌^◌, ◌==◌, min, nat_le, Bool, true, false, if◌then◌else◌, List, Option, Some, None, find, Vec}
+use Rattle.std.specs.Prelude.{◌≡◌, ℕ, zero, suc, ◌+◌, ◌<◌, ◌-◌, ◌^◌, ◌==◌, min, nat_le, Bool, true, false, if◌then◌else◌, List, Option, Some, None, find, Vec}
 use Rattle.std.specs.Option.{option_map}
 use Rattle.std.specs.declared.alloc.Global.{Global}
 use Rattle.dap_disk.specs.declared.image.Image.{Image}
@@ -57,3 +57,13 @@ restarted (Some image) p = record p { image = New; up = true }
 
 abbrev pub after_restart : Plan → Plan
 after_restart p = restarted (comes_back p) (record p { restarts = counted p.restarts })
+
+-- after so many calls that aren't restarts
+abbrev pub after_calls : ℕ → Plan → Plan
+after_calls zero p = p
+after_calls (suc n) p = after_call (after_calls n p)
+
+-- Calls count from 1: after n of them on a new disk the next one is number n + 1, and a restart between doesn't count.
+pub record CallsCountFromOne : Type 0 where
+  pub next : (stops : Vec Stop Global) (dead_from : Option ℕ) (n : ℕ) → n + 1 < 2 ^ 64 → next_stop (after_calls n (begun stops dead_from)) ≡ image_at stops.items (n + 1)
+  pub restart : (p : Plan) → next_stop (after_restart p) ≡ next_stop p

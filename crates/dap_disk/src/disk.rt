@@ -1,8 +1,8 @@
 //! A disk, as a trait with a written meaning.
-ghost use Rattle.std.specs.Prelude.{◌≡◌, ◌≤◌, ◌<◌, ◌-◌, ◌+◌, ◌^◌, List, ℕ, Bool, ◌⊎◌, Option, Some, length, take, drop, IfOk, OnOk, OnErr, IsErrOf, IsTrue, false};
+ghost use Rattle.std.specs.Prelude.{◌≡◌, ◌≤◌, ◌<◌, ◌-◌, ◌+◌, ◌^◌, List, ℕ, Bool, ◌⊎◌, Option, Some, length, take, drop, IfOk, OnOk, OnErr, IsErr, IsErrOf, IsTrue, false};
 ghost use Rattle.dap_disk.specs.declared.disk.StoreFault.TheVariants.{Down as StoreDown};
-ghost use Rattle.dap_bytes.specs.Causes.{Rose};
-ghost use Rattle.dap_disk.specs.Disk.{Tells, of_told, written, Torn, Shortened, Follows, NoMore, Only, Elapses, CountsOne, Move, Called, Refused, Restarted};
+ghost use Rattle.dap_disk.specs.Disk.{Tells, of_told, written, Torn, Shortened, Follows, NoMore, Only, Elapses, CountsStop, CountsDeath, Move, Looked, Changed, Synced, Refused, Restarted};
+ghost use Rattle.dap_disk.specs.Images.{Written, CutTo};
 
 /// The disk has stopped. Only a restart is allowed.
 #[derive(Clone, Copy, Debug, PartialEq, Eq)]
@@ -68,11 +68,9 @@ pub trait Disk: Drop {
         ensures images { NoMore (may_leave self.old) (may_leave self.new) }
         ensures time { Elapses (moment self.old) (moment self.new) (left_since self.old) (left_since self.new) (may_leave self.new) }
         ensures up { OnOk result (IsTrue (up self.new)) }
-        ensures counts { (downs self.old ≤ downs self.new) × (deads self.old ≤ deads self.new) }
         ensures down { OnErr result (up self.new ≡ false) }
-        ensures cause { OnErr result (Rose (downs self.old) (downs self.new)) }
-        ensures one { CountsOne (downs self.old) (downs self.new) result × (deads self.new ≡ deads self.old) }
-        ensures moves { moves Called self.old self.new };
+        ensures counts { CountsStop downs deads (IsErr result) self.old self.new }
+        ensures moves { moves Looked self.old self.new };
 
     /// Reads the first bytes from a place on and says how many: none only past the end, or into an empty buffer.
     fn read(&mut self, at: u64, buf: &mut [u8]) -> Result<usize, Down>
@@ -83,11 +81,9 @@ pub trait Disk: Drop {
         ensures images { NoMore (may_leave self.old) (may_leave self.new) }
         ensures time { Elapses (moment self.old) (moment self.new) (left_since self.old) (left_since self.new) (may_leave self.new) }
         ensures up { OnOk result (IsTrue (up self.new)) }
-        ensures counts { (downs self.old ≤ downs self.new) × (deads self.old ≤ deads self.new) }
         ensures down { OnErr result (up self.new ≡ false) }
-        ensures cause { OnErr result (Rose (downs self.old) (downs self.new)) }
-        ensures one { CountsOne (downs self.old) (downs self.new) result × (deads self.new ≡ deads self.old) }
-        ensures moves { moves Called self.old self.new };
+        ensures counts { CountsStop downs deads (IsErr result) self.old self.new }
+        ensures moves { moves Looked self.old self.new };
 
     /// Writes over what is there, and past the end. Until a sync a stop may leave any of the lengths between, and any
     /// bytes in the range.
@@ -96,14 +92,12 @@ pub trait Disk: Drop {
         requires within { Tells (holds self.old) (λ c. at ≤ length c) }
         ensures done { OnOk result (holds self.new ≡ of_told (written at bytes.now) (holds self.old)) }
         ensures images { Follows (Torn at (length bytes.now)) (may_leave self.old) (may_leave self.new) }
-        ensures memory { IsErrOf result StoreFault.NoMemory → (holds self.new ≡ holds self.old) × IsTrue (up self.new) × NoMore (may_leave self.old) (may_leave self.new) × (downs self.new ≡ downs self.old) × (deads self.new ≡ deads self.old) }
+        ensures memory { IsErrOf result StoreFault.NoMemory → (holds self.new ≡ holds self.old) × IsTrue (up self.new) × NoMore (may_leave self.old) (may_leave self.new) }
         ensures time { Elapses (moment self.old) (moment self.new) (left_since self.old) (left_since self.new) (may_leave self.new) }
         ensures up { OnOk result (IsTrue (up self.new)) }
-        ensures counts { (downs self.old ≤ downs self.new) × (deads self.old ≤ deads self.new) }
         ensures down { IsErrOf result StoreFault.Down → up self.new ≡ false }
-        ensures cause { IsErrOf result StoreFault.Down → Rose (downs self.old) (downs self.new) }
-        ensures one { CountsOne (downs self.old) (downs self.new) result × (deads self.new ≡ deads self.old) }
-        ensures moves { IsErrOf result StoreFault.NoMemory ⊎ moves Called self.old self.new }
+        ensures counts { CountsStop downs deads (IsErrOf result StoreFault.Down) self.old self.new }
+        ensures moves { IsErrOf result StoreFault.NoMemory ⊎ moves (Changed (Written at bytes.now)) self.old self.new }
         ensures refused { IsErrOf result StoreFault.NoMemory → moves Refused self.old self.new };
 
     /// Cuts the file to a length. Until a sync a stop may leave any of the lengths between, and any bytes past the new end.
@@ -112,14 +106,12 @@ pub trait Disk: Drop {
         requires within { Tells (holds self.old) (λ c. len ≤ length c) }
         ensures done { OnOk result (holds self.new ≡ of_told (take len) (holds self.old)) }
         ensures images { Follows (Shortened len) (may_leave self.old) (may_leave self.new) }
-        ensures memory { IsErrOf result StoreFault.NoMemory → (holds self.new ≡ holds self.old) × IsTrue (up self.new) × NoMore (may_leave self.old) (may_leave self.new) × (downs self.new ≡ downs self.old) × (deads self.new ≡ deads self.old) }
+        ensures memory { IsErrOf result StoreFault.NoMemory → (holds self.new ≡ holds self.old) × IsTrue (up self.new) × NoMore (may_leave self.old) (may_leave self.new) }
         ensures time { Elapses (moment self.old) (moment self.new) (left_since self.old) (left_since self.new) (may_leave self.new) }
         ensures up { OnOk result (IsTrue (up self.new)) }
-        ensures counts { (downs self.old ≤ downs self.new) × (deads self.old ≤ deads self.new) }
         ensures down { IsErrOf result StoreFault.Down → up self.new ≡ false }
-        ensures cause { IsErrOf result StoreFault.Down → Rose (downs self.old) (downs self.new) }
-        ensures one { CountsOne (downs self.old) (downs self.new) result × (deads self.new ≡ deads self.old) }
-        ensures moves { IsErrOf result StoreFault.NoMemory ⊎ moves Called self.old self.new }
+        ensures counts { CountsStop downs deads (IsErrOf result StoreFault.Down) self.old self.new }
+        ensures moves { IsErrOf result StoreFault.NoMemory ⊎ moves (Changed (CutTo len)) self.old self.new }
         ensures refused { IsErrOf result StoreFault.NoMemory → moves Refused self.old self.new };
 
     /// After `Ok` a stop leaves what a read gives.
@@ -130,11 +122,9 @@ pub trait Disk: Drop {
         ensures images { NoMore (may_leave self.old) (may_leave self.new) }
         ensures time { Elapses (moment self.old) (moment self.new) (left_since self.old) (left_since self.new) (may_leave self.new) }
         ensures up { OnOk result (IsTrue (up self.new)) }
-        ensures counts { (downs self.old ≤ downs self.new) × (deads self.old ≤ deads self.new) }
         ensures down { OnErr result (up self.new ≡ false) }
-        ensures cause { OnErr result (Rose (downs self.old) (downs self.new)) }
-        ensures one { CountsOne (downs self.old) (downs self.new) result × (deads self.new ≡ deads self.old) }
-        ensures moves { moves Called self.old self.new };
+        ensures counts { CountsStop downs deads (IsErr result) self.old self.new }
+        ensures moves { moves Synced self.old self.new };
 
     /// Brings the disk back. It then reads as one of its images, and nothing waits for a sync.
     fn restart(&mut self) -> Result<(), Dead>
@@ -143,10 +133,8 @@ pub trait Disk: Drop {
         ensures images { NoMore (may_leave self.old) (may_leave self.new) }
         ensures time { Elapses (moment self.old) (moment self.new) (left_since self.old) (left_since self.new) (may_leave self.new) }
         ensures up { OnOk result (IsTrue (up self.new)) }
-        ensures counts { (downs self.old ≤ downs self.new) × (deads self.old ≤ deads self.new) }
         ensures down { OnErr result (up self.new ≡ false) }
-        ensures cause { OnErr result (Rose (deads self.old) (deads self.new)) }
-        ensures one { CountsOne (deads self.old) (deads self.new) result × (downs self.new ≡ downs self.old) }
+        ensures counts { CountsDeath downs deads (IsErr result) self.old self.new }
         ensures moves { moves Restarted self.old self.new };
 
     /// This moment is one of those since an earlier one.

@@ -1,7 +1,6 @@
 //! A disk in memory that stops where it is told to.
-ghost use Rattle.std.specs.Prelude.{◌≡◌, ◌≤◌, ◌<◌, ◌-◌, min, length, take, drop, Some, IfOk, OnOk, OnErr, IsTrue, false};
-ghost use Rattle.dap_bytes.specs.Causes.{Rose};
-ghost use Rattle.dap_disk.specs.Disk.{Tells, NoMore, Only, Elapses, CountsOne, Called};
+ghost use Rattle.std.specs.Prelude.{◌≡◌, ◌≤◌, ◌<◌, ◌-◌, min, length, take, drop, Some, IfOk, OnOk, OnErr, IsErr, IsTrue, false};
+ghost use Rattle.dap_disk.specs.Disk.{Tells, NoMore, Only, Elapses, CountsStop, Looked};
 ghost use Rattle.dap_disk.specs.History.{IsImage, WasImage};
 ghost use Rattle.dap_disk.specs.HistoryLaws.{was_now, was_only, held_is_image};
 ghost use Rattle.dap_disk.specs.StoreLaws.{held_fits};
@@ -90,13 +89,12 @@ impl Disk for MemDisk {
         ensures images { NoMore (IsImage self.old.store.first.items self.old.store.events.items) (IsImage self.new.store.first.items self.new.store.events.items) }
         ensures time { Elapses (length self.old.store.events.items) (length self.new.store.events.items) (WasImage self.old.store.first.items self.old.store.events.items) (WasImage self.new.store.first.items self.new.store.events.items) (IsImage self.new.store.first.items self.new.store.events.items) }
         ensures up { OnOk result (IsTrue self.new.plan.up) }
-        ensures counts { (self.old.plan.downs ≤ self.new.plan.downs) × (self.old.plan.deads ≤ self.new.plan.deads) }
         ensures down { OnErr result (self.new.plan.up ≡ false) }
-        ensures cause { OnErr result (Rose self.old.plan.downs self.new.plan.downs) }
-        ensures one { CountsOne self.old.plan.downs self.new.plan.downs result × (self.new.plan.deads ≡ self.old.plan.deads) }
-        ensures moves { Moved Called self.old self.new }
+        ensures counts { CountsStop ⟦<MemDisk as Disk>⟧.downs ⟦<MemDisk as Disk>⟧.deads (IsErr result) self.old self.new }
+        ensures moves { Moved Looked self.old self.new }
 
-        // It reads as far as there are bytes and room.
+        // It reads as far as there are bytes and room, and a refused one leaves the buffer.
+        ensures untouched { OnErr result (buf.new ≡ buf.old) }
         ensures full { IfOk result (λ n. n ≡ min (length buf.old) (length (held_by self.old) - at)) }
     {
         if self.plan.stops_here() {

@@ -1,7 +1,6 @@
 //! A change and a sync, as one step.
 ghost use Rattle.std.specs.Prelude.{◌≡◌, ◌⊎◌, ◌≤◌, ◌<◌, ◌+◌, List, ℕ, length, take, OnOk, IsErrOf, IsTrue, false};
-ghost use Rattle.dap_bytes.specs.Causes.{Rose};
-ghost use Rattle.dap_disk.specs.Disk.{Tells, of_told, written, Torn, Shortened, Follows, NoMore, Only, LeavesOnly};
+ghost use Rattle.dap_disk.specs.Disk.{Tells, of_told, written, Torn, Shortened, Follows, NoMore, Only, LeavesOnly, CountsStop};
 
 use crate::{Disk, StoreFault};
 
@@ -16,10 +15,7 @@ pub fn write_synced<D: Disk>(disk: &mut D, at: u64, bytes: &[u8]) -> Result<(), 
     ensures any_moment { LeavesOnly D.moment D.left_since disk.old disk.new (λ c. (d : List ℕ) × D.may_leave disk.old d × Torn at (length bytes.now) d c) }
     ensures memory { IsErrOf result StoreFault.NoMemory → (D.holds disk.new ≡ D.holds disk.old) × IsTrue (D.up disk.new) × NoMore (D.may_leave disk.old) (D.may_leave disk.new) }
     ensures up { OnOk result (IsTrue (D.up disk.new)) }
-    ensures counts { (D.downs disk.old ≤ D.downs disk.new) × (D.deads disk.old ≤ D.deads disk.new) }
-    ensures cause { IsErrOf result StoreFault.Down → Rose (D.downs disk.old) (D.downs disk.new) }
-    ensures calm { IsErrOf result StoreFault.Down ⊎ (D.downs disk.new ≡ D.downs disk.old) }
-    ensures one { (D.downs disk.new ≤ D.downs disk.old + 1) × (D.deads disk.new ≡ D.deads disk.old) }
+    ensures counts { CountsStop D.downs D.deads (IsErrOf result StoreFault.Down) disk.old disk.new }
     ensures down { IsErrOf result StoreFault.Down → D.up disk.new ≡ false }
 {
     disk.write_at(at, bytes)?;
@@ -38,10 +34,7 @@ pub fn cut_synced<D: Disk>(disk: &mut D, len: u64) -> Result<(), StoreFault>
     ensures any_moment { LeavesOnly D.moment D.left_since disk.old disk.new (λ c. (d : List ℕ) × D.may_leave disk.old d × Shortened len d c) }
     ensures memory { IsErrOf result StoreFault.NoMemory → (D.holds disk.new ≡ D.holds disk.old) × IsTrue (D.up disk.new) × NoMore (D.may_leave disk.old) (D.may_leave disk.new) }
     ensures up { OnOk result (IsTrue (D.up disk.new)) }
-    ensures counts { (D.downs disk.old ≤ D.downs disk.new) × (D.deads disk.old ≤ D.deads disk.new) }
-    ensures cause { IsErrOf result StoreFault.Down → Rose (D.downs disk.old) (D.downs disk.new) }
-    ensures calm { IsErrOf result StoreFault.Down ⊎ (D.downs disk.new ≡ D.downs disk.old) }
-    ensures one { (D.downs disk.new ≤ D.downs disk.old + 1) × (D.deads disk.new ≡ D.deads disk.old) }
+    ensures counts { CountsStop D.downs D.deads (IsErrOf result StoreFault.Down) disk.old disk.new }
     ensures down { IsErrOf result StoreFault.Down → D.up disk.new ≡ false }
 {
     disk.cut(len)?;

@@ -53,6 +53,80 @@ fn a_stop_leaves_the_listed_image(rt: HostRuntime) -> Result<(), Fail> {
     Ok(())
 }
 
+/// A write that only looks come after, and a sync.
+fn change_and_look<D: Disk>(disk: &mut D) -> Result<(), StoreFault>
+    requires up { IsTrue (D.up disk.old) }
+    requires held { D.holds disk.old ≡ Some (1 ∷ 2 ∷ 3 ∷ []) }
+{
+    disk.write_at(1, &[8])?;
+    let mut buf = [0; 2];
+    disk.len()?;
+    disk.read(0, &mut buf)?;
+    disk.sync()?;
+    Ok(())
+}
+
+#[test]
+fn calls_count_from_1_looks_sync_nothing_and_the_first_listing_counts(
+    rt: HostRuntime,
+) -> Result<(), Fail> {
+    let alloc = rt.alloc();
+    for (call, image, want) in [
+        (1, Image::Old, [1, 2, 3]),
+        (2, Image::Old, [1, 2, 3]),
+        (3, Image::Fill(7), [1, 7, 3]),
+        (4, Image::Old, [1, 2, 3]),
+        (5, Image::Old, [1, 8, 3]),
+    ] {
+        let other = Stop {
+            call,
+            image: Image::New,
+        };
+        let stops = [Stop { call, image }, other].to_vec(alloc)?;
+        let mut disk = MemDisk::new(alloc, [1, 2, 3].to_vec(alloc)?, stops, None);
+        let outcome = change_and_look(&mut disk);
+        assert_eq!(rt; outcome.is_err(), call <= 4);
+        let restarted = disk.restart();
+        assert_eq!(rt; restarted, Ok(()));
+        assert_eq!(rt; disk.bytes(), want.as_slice(), "call {call}");
+    }
+    Ok(())
+}
+
+/// A write with no sync behind it.
+fn write_front<D: Disk>(disk: &mut D, byte: u8) -> Result<(), StoreFault>
+    requires up { IsTrue (D.up disk.old) }
+{
+    disk.write_at(0, &[byte])
+}
+
+#[test]
+fn a_restart_without_a_stop_leaves_every_change_and_is_no_call(
+    rt: HostRuntime,
+) -> Result<(), Fail> {
+    let alloc = rt.alloc();
+    let stops = [Stop {
+        call: 2,
+        image: Image::Old,
+    }]
+    .to_vec(alloc)?;
+    let mut disk = MemDisk::new(alloc, [1, 2].to_vec(alloc)?, stops, None);
+    for (byte, outcome, want) in [
+        (8, Ok(()), [8, 2]),
+        (9, Err(StoreFault::Down), [8, 2]),
+        (7, Ok(()), [7, 2]),
+    ] {
+        let restarted = disk.restart();
+        assert_eq!(rt; restarted, Ok(()));
+        let written = write_front(&mut disk, byte);
+        assert_eq!(rt; written, outcome);
+        let restarted = disk.restart();
+        assert_eq!(rt; restarted, Ok(()));
+        assert_eq!(rt; disk.bytes(), want.as_slice());
+    }
+    Ok(())
+}
+
 #[test]
 fn a_dead_disk_stays_dead(rt: HostRuntime) -> Result<(), Fail> {
     let alloc = rt.alloc();

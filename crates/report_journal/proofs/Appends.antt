@@ -3,7 +3,7 @@ use Rattle.std.proofs.Common.{◌≡◌, ℕ, ◌+◌, ◌<◌, List, [], ◌∷
 use Rattle.std.proofs.lemmas.List.{take-append-le, take-take, drop_at}
 use Rattle.std.specs.Int.{to_be_bytes, w32}
 use Rattle.dap_disk.specs.Disk.{Tells, of_told, written, Torn, Follows, Only}
-use Rattle.dap_disk.specs.Runs.{told_before}
+use Rattle.dap_disk.specs.RunLaws.{told_before}
 use Rattle.report_journal.specs.Journal.{body, block, IsBlock, Closed, Staged, behind, with_block, Either}
 use Rattle.report_journal.proofs.Steps.{torn_behind, written_behind, torn_gate, written_gate}
 

@@ -2,7 +2,7 @@
 use Rattle.std.proofs.Common.{◌≡◌, ◌⊎◌, inl, inr, ℕ, ◌≤◌, List, [], ◌∷◌, length, Option, Some, None, refl, sym, ◌∙◌, ap, subst, arith}
 use Rattle.std.proofs.lemmas.List.{nil_from_length}
 use Rattle.dap_disk.specs.Disk.{Elapses, LeavesOnly, NoMore, Tells, of_told, written}
-use Rattle.dap_disk.specs.Runs.{started, kept, then, weaker}
+use Rattle.dap_disk.specs.RunLaws.{started, kept, then, weaker}
 use Rattle.report_journal.specs.Journal.{blocks, all_records, Stands}
 use Rattle.report_journal.specs.Reading.{SameRecords}
 

@@ -3,7 +3,7 @@ use Rattle.std.proofs.Common.{◌≡◌, ◌⊎◌, inl, inr, ℕ, ◌+◌, ◌�
 use Rattle.std.proofs.lemmas.List.{length-map, take_all, map-append, drop_at, take-append-le}
 use Rattle.std.specs.declared.alloc.Global.{Global}
 use Rattle.dap_disk.specs.Disk.{Tells, LeavesOnly}
-use Rattle.dap_disk.specs.Runs.{weaker}
+use Rattle.dap_disk.specs.RunLaws.{weaker}
 use Rattle.report_journal.specs.Journal.{Closed, Either, Stands, IsBlock, behind}
 use Rattle.report_journal.specs.Log.{contents, IsLog, IsStanding}
 

@@ -5,3 +5,4 @@ pub mod Log
 pub mod Reader
 pub mod Reading
 pub mod Retry
+pub mod RetryLaws

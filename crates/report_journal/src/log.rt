@@ -1,7 +1,6 @@
 //! A journal: blocks of records, each behind a gate byte that is opened once the block is on the disk.
 ghost use Rattle.std.specs.Prelude.{◌≡◌, ◌⊎◌, ◌≤◌, ◌<◌, ◌^◌, ◌+◌, ◌++◌, [], List, ℕ, length, IfOk, IfErr, OnOk, OnErr, IsErrOf, IsTrue, Some, false};
-ghost use Rattle.dap_bytes.specs.Causes.{Rose};
-ghost use Rattle.dap_disk.specs.Disk.{Tells, LeavesOnly, of_told};
+ghost use Rattle.dap_disk.specs.Disk.{CountsRestart, CountsStop, Tells, LeavesOnly, of_told};
 ghost use Rattle.report_journal.specs.Journal.{Closed, NoJournal, Stands, body, with_block};
 ghost use Rattle.report_journal.specs.Log.{Leaves};
 ghost use Rattle.report_journal.specs.Reading.{SameRecords, opened};
@@ -78,15 +77,11 @@ impl<D: Disk> Log<D> {
 
         ensures none { IfErr result (λ e. (at : ℕ) → e.fault ≡ LogFault.NotAJournal at → Tells (D.holds disk) (NoJournal at) × (D.holds e.disk ≡ D.holds disk) × IsTrue (D.up e.disk)) }
         ensures memory { IfErr result (λ e. e.fault ≡ LogFault.NoMemory → IsTrue (D.up e.disk) × Tells (D.holds e.disk) (SameRecords (D.holds disk))) }
-        ensures cause { IfErr result (λ e. e.fault ≡ LogFault.Down → Rose (D.downs disk) (D.downs e.disk)) }
-        ensures counts { IfOk result (λ log. (D.downs disk ≤ D.downs log.disk) × (D.deads disk ≤ D.deads log.disk)) }
-        ensures counts_err { IfErr result (λ e. (D.downs disk ≤ D.downs e.disk) × (D.deads disk ≤ D.deads e.disk)) }
         ensures down { IfErr result (λ e. e.fault ≡ LogFault.Down → D.up e.disk ≡ false) }
 
         // Where it succeeds no fault of the disk is counted, and else one stop, that of `Down`.
-        ensures calm { IfOk result (λ log. (D.downs log.disk ≡ D.downs disk) × (D.deads log.disk ≡ D.deads disk)) }
-        ensures calm_err { IfErr result (λ e. (e.fault ≡ LogFault.Down) ⊎ (D.downs e.disk ≡ D.downs disk)) }
-        ensures one { IfErr result (λ e. (D.downs e.disk ≤ D.downs disk + 1) × (D.deads e.disk ≡ D.deads disk)) }
+        ensures counts { IfOk result (λ log. CountsStop D.downs D.deads ⊥ disk log.disk) }
+        ensures counts_err { IfErr result (λ e. CountsStop D.downs D.deads (e.fault ≡ LogFault.Down) disk e.disk) }
     {
         let mut disk = disk;
         match start(alloc, &mut disk) {
@@ -108,6 +103,7 @@ impl<D: Disk> Log<D> {
     /// Whether it takes records.
     pub fn up(&self) -> bool
         ensures up { result ≡ self.now.up }
+        ensures at_rest { IsTrue self.now.up → self.now.coming ≡ [] }
         ensures images { Leaves D.may_leave self.now }
     {
         self.up
@@ -116,6 +112,7 @@ impl<D: Disk> Log<D> {
     /// The records as opened and appended, the oldest first.
     pub fn records(&self) -> &[Vec<u8>]
         ensures records { contents result.now ≡ self.now.records }
+        ensures at_rest { IsTrue self.now.up → self.now.coming ≡ [] }
         ensures images { Leaves D.may_leave self.now }
     {
         &self.records[..self.durable]
@@ -124,6 +121,7 @@ impl<D: Disk> Log<D> {
     /// The disk.
     pub fn into_disk(self) -> D
         ensures disk { result ≡ self.disk }
+        ensures up { IsTrue self.up → IsTrue (D.up result) }
         ensures images { Leaves D.may_leave self }
         ensures held { IsTrue self.up → Tells (D.holds self.disk) (Stands self.records) }
     {
@@ -155,11 +153,8 @@ impl<D: Disk> Log<D> {
         ensures in_hand { IsErrOf result AppendFault.Down → (self.new.up ≡ false) × (self.new.records ≡ self.old.records) × (self.new.coming ≡ contents records.now) }
         ensures at_rest { IsTrue self.new.up → self.new.coming ≡ [] }
         ensures images { Leaves D.may_leave self.new }
-        ensures cause { IsErrOf result AppendFault.Down → Rose (D.downs self.old.disk) (D.downs self.new.disk) }
-        ensures calm { IsErrOf result AppendFault.Down ⊎ (D.downs self.new.disk ≡ D.downs self.old.disk) }
-        ensures one { (D.downs self.new.disk ≤ D.downs self.old.disk + 1) × (D.deads self.new.disk ≡ D.deads self.old.disk) }
+        ensures counts { CountsStop D.downs D.deads (IsErrOf result AppendFault.Down) self.old.disk self.new.disk }
         ensures down { IsErrOf result AppendFault.Down → D.up self.new.disk ≡ false }
-        ensures counts { (D.downs self.old.disk ≤ D.downs self.new.disk) × (D.deads self.old.disk ≤ D.deads self.new.disk) }
     {
         let gate = self.gate;
         let bytes = block_bytes(alloc, records)?;
@@ -198,11 +193,7 @@ impl<D: Disk> Log<D> {
         ensures same { OnErr result ((self.new.up ≡ false) × (self.new.records ≡ self.old.records) × (self.new.coming ≡ self.old.coming)) }
         ensures at_rest { OnOk result (self.new.coming ≡ []) }
         ensures images { Leaves D.may_leave self.new }
-        ensures dead { IsErrOf result RestartFault.Dead → Rose (D.deads self.old.disk) (D.deads self.new.disk) }
-        ensures down { IsErrOf result RestartFault.Down → Rose (D.downs self.old.disk) (D.downs self.new.disk) }
-        ensures calm { (IsErrOf result RestartFault.Down ⊎ (D.downs self.new.disk ≡ D.downs self.old.disk)) × (IsErrOf result RestartFault.Dead ⊎ (D.deads self.new.disk ≡ D.deads self.old.disk)) }
-        ensures one { (D.downs self.new.disk ≤ D.downs self.old.disk + 1) × (D.deads self.new.disk ≤ D.deads self.old.disk + 1) }
-        ensures counts { (D.downs self.old.disk ≤ D.downs self.new.disk) × (D.deads self.old.disk ≤ D.deads self.new.disk) }
+        ensures counts { CountsRestart D.downs D.deads (IsErrOf result RestartFault.Down) (IsErrOf result RestartFault.Dead) self.old.disk self.new.disk }
     {
         self.up = false;
         let open_gate = gate_after_restart(&mut self.disk, self.gate)?;

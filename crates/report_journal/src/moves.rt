@@ -1,7 +1,6 @@
 //! What an append and a restart do to the disk.
 ghost use Rattle.std.specs.Prelude.{◌≡◌, ◌⊎◌, ◌≤◌, ◌<◌, ◌^◌, ◌+◌, ◌++◌, ◌↔◌, [], ◌∷◌, List, ℕ, length, take, drop, slice_index, IfOk, OnOk, IsErrOf, IsTrue, false};
-ghost use Rattle.dap_bytes.specs.Causes.{Rose};
-ghost use Rattle.dap_disk.specs.Disk.{Tells, NoMore, LeavesOnly, Only, of_told, written};
+ghost use Rattle.dap_disk.specs.Disk.{CountsRestart, CountsStop, Tells, NoMore, LeavesOnly, Only, of_told, written};
 ghost use Rattle.report_journal.specs.Journal.{Closed, Staged, Either, IsBlock, behind};
 ghost use Rattle.report_journal.specs.Log.{contents};
 
@@ -28,10 +27,7 @@ fn stage_block<D: Disk>(
     ensures any_moment { LeavesOnly D.moment D.left_since disk.old disk.new (Closed (contents (take durable kept.now)) gate) }
     ensures memory { IsErrOf result StoreFault.NoMemory → IsTrue (D.up disk.new) × Tells (D.holds disk.new) (Closed (contents (take durable kept.now)) gate) }
     ensures up { OnOk result (IsTrue (D.up disk.new)) }
-    ensures counts { (D.downs disk.old ≤ D.downs disk.new) × (D.deads disk.old ≤ D.deads disk.new) }
-    ensures cause { IsErrOf result StoreFault.Down → Rose (D.downs disk.old) (D.downs disk.new) }
-    ensures calm { IsErrOf result StoreFault.Down ⊎ (D.downs disk.new ≡ D.downs disk.old) }
-    ensures one { (D.downs disk.new ≤ D.downs disk.old + 1) × (D.deads disk.new ≡ D.deads disk.old) }
+    ensures counts { CountsStop D.downs D.deads (IsErrOf result StoreFault.Down) disk.old disk.new }
     ensures down { IsErrOf result StoreFault.Down → D.up disk.new ≡ false }
 {
     write_synced(disk, gate + 1, bytes)
@@ -55,10 +51,7 @@ fn open_gate<D: Disk>(
     ensures any_moment { LeavesOnly D.moment D.left_since disk.old disk.new (Either (contents (take durable kept.now)) (contents (drop durable kept.now)) gate) }
     ensures memory { IsErrOf result StoreFault.NoMemory → IsTrue (D.up disk.new) × Tells (D.holds disk.new) (Closed (contents (take durable kept.now)) gate) × ((c : List ℕ) → D.may_leave disk.new c → Closed (contents (take durable kept.now)) gate c) }
     ensures up { OnOk result (IsTrue (D.up disk.new)) }
-    ensures counts { (D.downs disk.old ≤ D.downs disk.new) × (D.deads disk.old ≤ D.deads disk.new) }
-    ensures cause { IsErrOf result StoreFault.Down → Rose (D.downs disk.old) (D.downs disk.new) }
-    ensures calm { IsErrOf result StoreFault.Down ⊎ (D.downs disk.new ≡ D.downs disk.old) }
-    ensures one { (D.downs disk.new ≤ D.downs disk.old + 1) × (D.deads disk.new ≡ D.deads disk.old) }
+    ensures counts { CountsStop D.downs D.deads (IsErrOf result StoreFault.Down) disk.old disk.new }
     ensures down { IsErrOf result StoreFault.Down → D.up disk.new ≡ false }
 {
     write_synced(disk, gate, &[1])
@@ -85,10 +78,7 @@ pub(crate) fn write_block<D: Disk>(
     ensures images { (c : List ℕ) → D.may_leave disk.new c → Either (contents (take durable kept.now)) (contents (drop durable kept.now)) gate c }
     ensures any_moment { LeavesOnly D.moment D.left_since disk.old disk.new (Either (contents (take durable kept.now)) (contents (drop durable kept.now)) gate) }
     ensures memory { IsErrOf result StoreFault.NoMemory → IsTrue (D.up disk.new) × Tells (D.holds disk.new) (Closed (contents (take durable kept.now)) gate) × ((c : List ℕ) → D.may_leave disk.new c → Closed (contents (take durable kept.now)) gate c) }
-    ensures counts { (D.downs disk.old ≤ D.downs disk.new) × (D.deads disk.old ≤ D.deads disk.new) }
-    ensures cause { IsErrOf result StoreFault.Down → Rose (D.downs disk.old) (D.downs disk.new) }
-    ensures calm { IsErrOf result StoreFault.Down ⊎ (D.downs disk.new ≡ D.downs disk.old) }
-    ensures one { (D.downs disk.new ≤ D.downs disk.old + 1) × (D.deads disk.new ≡ D.deads disk.old) }
+    ensures counts { CountsStop D.downs D.deads (IsErrOf result StoreFault.Down) disk.old disk.new }
     ensures down { IsErrOf result StoreFault.Down → D.up disk.new ≡ false }
 {
     stage_block(disk, kept, durable, gate, bytes)?;
@@ -103,11 +93,7 @@ pub(crate) fn gate_after_restart<D: Disk>(disk: &mut D, gate: u64) -> Result<boo
     ensures up { OnOk result (IsTrue (D.up disk.new)) }
     ensures images { NoMore (D.may_leave disk.old) (D.may_leave disk.new) }
     ensures any_moment { LeavesOnly D.moment D.left_since disk.old disk.new (D.may_leave disk.old) }
-    ensures counts { (D.downs disk.old ≤ D.downs disk.new) × (D.deads disk.old ≤ D.deads disk.new) }
-    ensures dead { IsErrOf result RestartFault.Dead → Rose (D.deads disk.old) (D.deads disk.new) }
-    ensures down { IsErrOf result RestartFault.Down → Rose (D.downs disk.old) (D.downs disk.new) }
-    ensures calm { (IsErrOf result RestartFault.Down ⊎ (D.downs disk.new ≡ D.downs disk.old)) × (IsErrOf result RestartFault.Dead ⊎ (D.deads disk.new ≡ D.deads disk.old)) }
-    ensures one { (D.downs disk.new ≤ D.downs disk.old + 1) × (D.deads disk.new ≤ D.deads disk.old + 1) }
+    ensures counts { CountsRestart D.downs D.deads (IsErrOf result RestartFault.Down) (IsErrOf result RestartFault.Dead) disk.old disk.new }
 {
     disk.restart()?;
     let mut byte = [0];

@@ -1,7 +1,6 @@
 //! Reading a disk whole, and making it a journal.
-ghost use Rattle.std.specs.Prelude.{◌≡◌, ◌≢◌, ◌⊎◌, ◌≤◌, ◌<◌, ◌+◌, [], ◌∷◌, List, ℕ, length, take, slice_index, IfOk, OnOk, OnErr, IsErrOf, IsTrue, Err, true, false};
-ghost use Rattle.dap_bytes.specs.Causes.{Rose};
-ghost use Rattle.dap_disk.specs.Disk.{Tells, NoMore, LeavesOnly, Only, CountsOne, of_told};
+ghost use Rattle.std.specs.Prelude.{◌≡◌, ◌≢◌, ◌⊎◌, ◌≤◌, ◌<◌, ◌+◌, [], ◌∷◌, List, ℕ, length, take, slice_index, IfOk, OnOk, OnErr, IsErr, IsErrOf, IsTrue, Err, true, false};
+ghost use Rattle.dap_disk.specs.Disk.{Tells, NoMore, LeavesOnly, Only, CountsStop, of_told};
 ghost use Rattle.report_journal.specs.Journal.{Closed, NoJournal, Stands};
 ghost use Rattle.report_journal.specs.Log.{contents};
 ghost use Rattle.report_journal.specs.Reading.{SameRecords, is_fresh, opened};
@@ -20,9 +19,7 @@ pub fn read_into<D: Disk>(disk: &mut D, buf: &mut [u8]) -> Result<usize, Down>
     ensures images { NoMore (D.may_leave disk.old) (D.may_leave disk.new) }
     ensures any_moment { LeavesOnly D.moment D.left_since disk.old disk.new (D.may_leave disk.old) }
     ensures up { OnOk result (IsTrue (D.up disk.new)) }
-    ensures counts { (D.downs disk.old ≤ D.downs disk.new) × (D.deads disk.old ≤ D.deads disk.new) }
-    ensures cause { OnErr result (Rose (D.downs disk.old) (D.downs disk.new)) }
-    ensures one { CountsOne (D.downs disk.old) (D.downs disk.new) result × (D.deads disk.new ≡ D.deads disk.old) }
+    ensures counts { CountsStop D.downs D.deads (IsErr result) disk.old disk.new }
     ensures down { OnErr result (D.up disk.new ≡ false) }
 {
     let mut at = 0;
@@ -46,11 +43,8 @@ pub(crate) fn read_all<D: Disk>(alloc: Global, disk: &mut D) -> Result<Vec<u8>, 
     ensures any_moment { LeavesOnly D.moment D.left_since disk.old disk.new (D.may_leave disk.old) }
     ensures up { OnOk result (IsTrue (D.up disk.new)) }
     ensures memory { result ≡ Err LogFault.NoMemory → IsTrue (D.up disk.new) }
-    ensures counts { (D.downs disk.old ≤ D.downs disk.new) × (D.deads disk.old ≤ D.deads disk.new) }
-    ensures cause { result ≡ Err LogFault.Down → Rose (D.downs disk.old) (D.downs disk.new) }
+    ensures counts { CountsStop D.downs D.deads (result ≡ Err LogFault.Down) disk.old disk.new }
     ensures read { (at : ℕ) → result ≡ Err (LogFault.NotAJournal at) → ⊥ }
-    ensures calm { result ≡ Err LogFault.Down ⊎ (D.downs disk.new ≡ D.downs disk.old) }
-    ensures one { (D.downs disk.new ≤ D.downs disk.old + 1) × (D.deads disk.new ≡ D.deads disk.old) }
     ensures down { result ≡ Err LogFault.Down → D.up disk.new ≡ false }
 {
     let size = disk.len()?;
@@ -78,10 +72,7 @@ fn clear<D: Disk>(disk: &mut D, size: usize) -> Result<(), StoreFault>
     ensures images { (c : List ℕ) → D.may_leave disk.new c → length c ≤ 1 }
     ensures any_moment { LeavesOnly D.moment D.left_since disk.old disk.new (λ c. length c ≤ 1) }
     ensures memory { IsErrOf result StoreFault.NoMemory → (D.holds disk.new ≡ D.holds disk.old) × IsTrue (D.up disk.new) }
-    ensures counts { (D.downs disk.old ≤ D.downs disk.new) × (D.deads disk.old ≤ D.deads disk.new) }
-    ensures cause { IsErrOf result StoreFault.Down → Rose (D.downs disk.old) (D.downs disk.new) }
-    ensures calm { IsErrOf result StoreFault.Down ⊎ (D.downs disk.new ≡ D.downs disk.old) }
-    ensures one { (D.downs disk.new ≤ D.downs disk.old + 1) × (D.deads disk.new ≡ D.deads disk.old) }
+    ensures counts { CountsStop D.downs D.deads (IsErrOf result StoreFault.Down) disk.old disk.new }
     ensures down { IsErrOf result StoreFault.Down → D.up disk.new ≡ false }
 {
     if size == 0 {
@@ -104,10 +95,7 @@ fn make<D: Disk>(disk: &mut D, size: usize) -> Result<(), StoreFault>
     ensures up { OnOk result (IsTrue (D.up disk.new)) }
     ensures any_moment { LeavesOnly D.moment D.left_since disk.old disk.new (λ c. length c ≤ 1) }
     ensures memory { IsErrOf result StoreFault.NoMemory → IsTrue (D.up disk.new) × Tells (D.holds disk.new) (λ c. length c ≤ 1) }
-    ensures counts { (D.downs disk.old ≤ D.downs disk.new) × (D.deads disk.old ≤ D.deads disk.new) }
-    ensures cause { IsErrOf result StoreFault.Down → Rose (D.downs disk.old) (D.downs disk.new) }
-    ensures calm { IsErrOf result StoreFault.Down ⊎ (D.downs disk.new ≡ D.downs disk.old) }
-    ensures one { (D.downs disk.new ≤ D.downs disk.old + 1) × (D.deads disk.new ≡ D.deads disk.old) }
+    ensures counts { CountsStop D.downs D.deads (IsErrOf result StoreFault.Down) disk.old disk.new }
     ensures down { IsErrOf result StoreFault.Down → D.up disk.new ≡ false }
 {
     clear(disk, size)?;
@@ -138,10 +126,7 @@ pub(crate) fn start<D: Disk>(alloc: Global, disk: &mut D) -> Result<(Vec<Vec<u8>
     ensures any_moment { LeavesOnly D.moment D.left_since disk.old disk.new (λ c. D.may_leave disk.old c ⊎ SameRecords (D.holds disk.old) c) }
     ensures none { (at : ℕ) → result ≡ Err (LogFault.NotAJournal at) → Tells (D.holds disk.old) (NoJournal at) × (D.holds disk.new ≡ D.holds disk.old) × IsTrue (D.up disk.new) }
     ensures memory { result ≡ Err LogFault.NoMemory → IsTrue (D.up disk.new) × Tells (D.holds disk.new) (SameRecords (D.holds disk.old)) }
-    ensures cause { result ≡ Err LogFault.Down → Rose (D.downs disk.old) (D.downs disk.new) }
-    ensures counts { (D.downs disk.old ≤ D.downs disk.new) × (D.deads disk.old ≤ D.deads disk.new) }
-    ensures calm { result ≡ Err LogFault.Down ⊎ (D.downs disk.new ≡ D.downs disk.old) }
-    ensures one { (D.downs disk.new ≤ D.downs disk.old + 1) × (D.deads disk.new ≡ D.deads disk.old) }
+    ensures counts { CountsStop D.downs D.deads (result ≡ Err LogFault.Down) disk.old disk.new }
     ensures down { result ≡ Err LogFault.Down → D.up disk.new ≡ false }
 {
     disk.sync()?;

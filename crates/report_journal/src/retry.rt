@@ -1,6 +1,6 @@
 //! A journal that goes on through stops.
 ghost use Rattle.std.specs.Prelude.{◌≡◌, ◌⊎◌, ◌≤◌, ◌<◌, ◌+◌, ◌-◌, ◌++◌, [], List, ℕ, length, IfOk, OnOk, OnErr, IsErrOf, IsTrue, false};
-ghost use Rattle.dap_bytes.specs.Causes.{Rose, RoseBy};
+ghost use Rattle.dap_bytes.specs.Causes.{Counts, CountsTries};
 ghost use Rattle.dap_disk.specs.Disk.{Tells, LeavesOnly};
 ghost use Rattle.report_journal.specs.Journal.{Stands};
 ghost use Rattle.report_journal.specs.Log.{Leaves};
@@ -15,7 +15,7 @@ impl<D: Disk> Log<D> {
     /// down, with the records and the block in hand as before.
     pub fn restart_through(&mut self, stops: u32) -> Result<u32, RestartFault>
         requires { 0 < stops }
-        ensures left { IfOk result (λ left. (0 < left) × (left ≤ stops) × RoseBy (stops - left) (D.downs self.old.disk) (D.downs self.new.disk) × (D.downs self.new.disk ≤ D.downs self.old.disk + (stops - left))) }
+        ensures left { IfOk result (λ left. (0 < left) × (left ≤ stops) × CountsTries (stops - left) (D.downs self.old.disk) (D.downs self.new.disk)) }
         ensures records { OnOk result (IsTrue self.new.up × ((self.new.records ≡ self.old.records) ⊎ (self.new.records ≡ self.old.records ++ self.old.coming))) }
         ensures told { OnOk result (Tells (D.holds self.new.disk) (Stands self.new.records)) }
         ensures durable { OnOk result ((c : List ℕ) → D.may_leave self.new.disk c → Stands self.new.records c) }
@@ -23,14 +23,11 @@ impl<D: Disk> Log<D> {
         ensures same { OnErr result ((self.new.up ≡ false) × (self.new.records ≡ self.old.records) × (self.new.coming ≡ self.old.coming)) }
         ensures at_rest { OnOk result (self.new.coming ≡ []) }
         ensures images { Leaves D.may_leave self.new }
-        ensures dead { IsErrOf result RestartFault.Dead → Rose (D.deads self.old.disk) (D.deads self.new.disk) }
-        ensures down { IsErrOf result RestartFault.Down → RoseBy stops (D.downs self.old.disk) (D.downs self.new.disk) }
-        ensures counts { (D.downs self.old.disk ≤ D.downs self.new.disk) × (D.deads self.old.disk ≤ D.deads self.new.disk) }
+        ensures down { IsErrOf result RestartFault.Down → CountsTries stops (D.downs self.old.disk) (D.downs self.new.disk) }
 
-        // No more stops are counted than it may bear, and no fault but the one that it gives up with.
-        ensures bound { D.downs self.new.disk ≤ D.downs self.old.disk + stops }
-        ensures calm { IsErrOf result RestartFault.Dead ⊎ (D.deads self.new.disk ≡ D.deads self.old.disk) }
-        ensures one { D.deads self.new.disk ≤ D.deads self.old.disk + 1 }
+        // No more stops are counted than it may bear, and one disk that doesn't come back, that which it gives up with.
+        ensures bound { (D.downs self.old.disk ≤ D.downs self.new.disk) × (D.downs self.new.disk ≤ D.downs self.old.disk + stops) }
+        ensures deaths { Counts (IsErrOf result RestartFault.Dead) (D.deads self.old.disk) (D.deads self.new.disk) }
     {
         let mut left = stops;
         'tries: loop {

@@ -1,6 +1,6 @@
 //! A disk that tells nothing, as a real file.
-ghost use Rattle.std.specs.Prelude.{◌≡◌, ◌≤◌, ◌+◌, false, None, IsTrue, OnOk, OnErr};
-ghost use Rattle.dap_bytes.specs.Causes.{Rose};
+ghost use Rattle.std.specs.Prelude.{◌≡◌, false, None, IsTrue, OnOk, OnErr, IsErr};
+ghost use Rattle.dap_bytes.specs.Causes.{Counts};
 
 use crate::{Dead, Disk, Down, StoreFault};
 
@@ -25,10 +25,9 @@ impl Blind {
     }
 
     fn count(&mut self) -> Result<(), Down>
-        ensures ok { OnOk result ((self.new.up ≡ self.old.up) × (self.new.downs ≡ self.old.downs)) }
-        ensures err { OnErr result ((self.new.up ≡ false) × Rose self.old.downs self.new.downs) }
-        ensures later { self.old.downs ≤ self.new.downs }
-        ensures one { self.new.downs ≤ self.old.downs + 1 }
+        ensures ok { OnOk result (self.new.up ≡ self.old.up) }
+        ensures err { OnErr result (self.new.up ≡ false) }
+        ensures counts { Counts (IsErr result) self.old.downs self.new.downs }
     {
         self.calls = self.calls.saturating_add(1);
         if self.calls <= 3 {

@@ -1,6 +1,6 @@
 use Rattle.std.proofs.Common.{take, drop, sym, ◌∙◌, arith}
 use Rattle.std.proofs.lemmas.Result.{on_ok_weaker}
-use Rattle.dap_disk.specs.Runs.{weaker}
+use Rattle.dap_disk.specs.RunLaws.{weaker}
 use Rattle.report_journal.specs.Journal.{Closed, Either}
 use Rattle.report_journal.specs.Log.{contents}
 use Rattle.report_journal.proofs.Steps.{torn_gate}

@@ -25,8 +25,8 @@ returns-clause-done c =
 
 pub returns-then-stops_here-clause-moves : goal.returns-then-stops_here-clause-moves
 returns-then-stops_here-clause-moves c =
-    inr (c.stops_here.ensures.next, λ stopped. cut_waits c.args.self.now.store.first.items c.cut.new.self.first.items c.args.self.now.store.events.items c.cut.new.self.events.items c.in-Ok.ensures.first c.args.len c.in-Ok.ensures.ok)
+    inr (c.stops_here.ensures.next, cut_waits c.args.self.now.store.first.items c.cut.new.self.first.items c.args.self.now.store.events.items c.cut.new.self.events.items c.in-Ok.ensures.first c.args.len c.in-Ok.ensures.ok)
 
 pub returns-clause-moves : goal.returns-clause-moves
 returns-clause-moves c =
-    inr (c.stops_here.ensures.next, λ stopped. cut_waits c.args.self.now.store.first.items c.cut.new.self.first.items c.args.self.now.store.events.items c.cut.new.self.events.items c.in-Ok.ensures.first c.args.len c.in-Ok.ensures.ok)
+    inr (c.stops_here.ensures.next, cut_waits c.args.self.now.store.first.items c.cut.new.self.first.items c.args.self.now.store.events.items c.cut.new.self.events.items c.in-Ok.ensures.first c.args.len c.in-Ok.ensures.ok)

@@ -26,8 +26,8 @@ returns-clause-done c =
 
 pub returns-then-stops_here-clause-moves : goal.returns-then-stops_here-clause-moves
 returns-then-stops_here-clause-moves c =
-    inr (c.stops_here.ensures.next, λ stopped. wrote_waits c.args.self.now.store.first.items c.write.new.self.first.items c.args.self.now.store.events.items c.write.new.self.events.items c.in-Ok.ensures.first c.args.at c.args.bytes.now c.in-Ok.ensures.ok.0 c.in-Ok.ensures.ok.1 c.in-Ok.ensures.ok.2)
+    inr (c.stops_here.ensures.next, wrote_waits c.args.self.now.store.first.items c.write.new.self.first.items c.args.self.now.store.events.items c.write.new.self.events.items c.in-Ok.ensures.first c.args.at c.args.bytes.now c.in-Ok.ensures.ok.0 c.in-Ok.ensures.ok.1 c.in-Ok.ensures.ok.2)
 
 pub returns-clause-moves : goal.returns-clause-moves
 returns-clause-moves c =
-    inr (c.stops_here.ensures.next, λ stopped. wrote_waits c.args.self.now.store.first.items c.write.new.self.first.items c.args.self.now.store.events.items c.write.new.self.events.items c.in-Ok.ensures.first c.args.at c.args.bytes.now c.in-Ok.ensures.ok.0 c.in-Ok.ensures.ok.1 c.in-Ok.ensures.ok.2)
+    inr (c.stops_here.ensures.next, wrote_waits c.args.self.now.store.first.items c.write.new.self.first.items c.args.self.now.store.events.items c.write.new.self.events.items c.in-Ok.ensures.first c.args.at c.args.bytes.now c.in-Ok.ensures.ok.0 c.in-Ok.ensures.ok.1 c.in-Ok.ensures.ok.2)

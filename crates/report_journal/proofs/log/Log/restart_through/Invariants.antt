@@ -1,5 +1,5 @@
-use Rattle.std.proofs.Common.{◌≡◌, ◌≤◌, ◌<◌, ◌+◌, ◌-◌}
-use Rattle.dap_bytes.specs.Causes.{RoseBy}
+use Rattle.std.proofs.Common.{◌≡◌, ◌≤◌, ◌<◌, ◌-◌}
+use Rattle.dap_bytes.specs.Causes.{CountsTries}
 use Rattle.dap_disk.specs.Disk.{LeavesOnly}
 use Rattle.report_journal.specs.Retry.{WithOrWithout}
 use Rattle.report_journal.proofs.log.Log.restart_through.Given as goal
@@ -8,9 +8,7 @@ abbrev pub invariant-tries : goal.invariant-tries
 invariant-tries g l = record {
   some : 0 < l.left;
   left : l.left ≤ l.stops;
-  downs : RoseBy (l.stops - l.left) (g.D.Disk.downs l.initial.self.disk) (g.D.Disk.downs l.self.disk);
-  bound : g.D.Disk.downs l.self.disk ≤ g.D.Disk.downs l.initial.self.disk + (l.stops - l.left);
-  later : g.D.Disk.downs l.initial.self.disk ≤ g.D.Disk.downs l.self.disk;
+  downs : CountsTries (l.stops - l.left) (g.D.Disk.downs l.initial.self.disk) (g.D.Disk.downs l.self.disk);
   deads : g.D.Disk.deads l.self.disk ≡ g.D.Disk.deads l.initial.self.disk;
   records : l.self.records ≡ l.initial.self.records;
   coming : l.self.coming ≡ l.initial.self.coming;
