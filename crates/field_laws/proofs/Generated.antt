@@ -1,5 +1,5 @@
 -- The laws of residues whose roots of one are the powers of a generator, from two computed numbers.
-use Rattle.std.proofs.Common.{◌≡◌, ℕ, ◌+◌, ◌-◌, ◌*◌, ◌%◌, ◌^◌, ◌<◌, sym, subst, arith}
+use Rattle.std.proofs.Common.{◌≡◌, ℕ, ◌+◌, ◌-◌, ◌*◌, ◌%◌, ◌^◌, ◌<◌, subst, arith}
 use Rattle.field_laws.specs.Ring.{Ring, RingLaws, RootLaws, power}
 use Rattle.field_laws.specs.Residues.{Residues, residue_ring}
 use Rattle.field_laws.specs.Primes.{IsPrime}

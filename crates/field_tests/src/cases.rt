@@ -12,7 +12,34 @@ pub struct Case {
 }
 
 /// Modulo 2^64 - 2^32 + 1.
-pub const CASES_64: [Case; 9] = [
+pub const CASES_64: [Case; 12] = [
+    Case {
+        a: 0,
+        b: 0,
+        sum: 0,
+        difference: 0,
+        negative: 0,
+        product: 0,
+        power: 1,
+    },
+    Case {
+        a: 1,
+        b: 0xffffffff00000000,
+        sum: 0,
+        difference: 2,
+        negative: 0xffffffff00000000,
+        product: 0xffffffff00000000,
+        power: 1,
+    },
+    Case {
+        a: 2,
+        b: 0xffffffff00000001,
+        sum: 2,
+        difference: 2,
+        negative: 0xfffffffeffffffff,
+        product: 0,
+        power: 2,
+    },
     Case {
         a: 0,
         b: 0xffffffff00000000,
@@ -97,7 +124,34 @@ pub const CASES_64: [Case; 9] = [
 ];
 
 /// Modulo 2^128 - 7 * 2^66 + 1.
-pub const CASES_128: [Case; 9] = [
+pub const CASES_128: [Case; 12] = [
+    Case {
+        a: 0,
+        b: 0,
+        sum: 0,
+        difference: 0,
+        negative: 0,
+        product: 0,
+        power: 1,
+    },
+    Case {
+        a: 1,
+        b: 0xffffffffffffffe40000000000000000,
+        sum: 0,
+        difference: 2,
+        negative: 0xffffffffffffffe40000000000000000,
+        product: 0xffffffffffffffe40000000000000000,
+        power: 1,
+    },
+    Case {
+        a: 2,
+        b: 0xffffffffffffffe40000000000000001,
+        sum: 2,
+        difference: 2,
+        negative: 0xffffffffffffffe3ffffffffffffffff,
+        product: 0,
+        power: 2,
+    },
     Case {
         a: 0,
         b: 0xffffffffffffffe40000000000000000,

@@ -195,6 +195,7 @@ fn bytes_go_both_ways(rt: HostRuntime) -> Result<(), Fail> {
     ];
     assert_eq!(rt; Field128::decode(&modulus_128), None);
     assert_eq!(rt; Field128::decode(&last_128[..15]), None);
+    assert_eq!(rt; Field128::decode(&[0; 17]), None);
     Ok(())
 }
 

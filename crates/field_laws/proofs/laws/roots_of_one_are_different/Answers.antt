@@ -1,4 +1,4 @@
-use Rattle.std.proofs.Common.{◌≡◌, ◌^◌, ◌<◌, ◌∙◌, sym, arith, get_or, length}
+use Rattle.std.proofs.Common.{◌^◌, ◌<◌, ◌∙◌, sym, arith, get_or, length}
 use Rattle.std.proofs.lemmas.List.FromFn.{length-map-range_with_len, get_or-map-range_with_len}
 use Rattle.field_laws.specs.Ring.{power}
 use Rattle.field_laws.proofs.Proth.{different_powers}
