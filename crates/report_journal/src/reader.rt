@@ -1,7 +1,6 @@
 //! Reading a journal as it stands, without opening it.
-ghost use Rattle.std.specs.Prelude.{◌≡◌, ◌⊎◌, ◌≤◌, ◌+◌, ℕ, drop, IfOk, Err, IsTrue, false};
-ghost use Rattle.dap_bytes.specs.Causes.{Rose};
-ghost use Rattle.dap_disk.specs.Disk.{Tells, NoMore, LeavesOnly};
+ghost use Rattle.std.specs.Prelude.{◌≡◌, ◌⊎◌, ℕ, drop, IfOk, Err, IsTrue, false};
+ghost use Rattle.dap_disk.specs.Disk.{CountsStop, Tells, NoMore, LeavesOnly};
 ghost use Rattle.report_journal.specs.Journal.{NoJournal, Stands};
 ghost use Rattle.report_journal.specs.Log.{contents};
 ghost use Rattle.report_journal.specs.Reading.{StandsIn};
@@ -60,10 +59,7 @@ pub fn read_blocks<D: Disk>(
     ensures any_moment { LeavesOnly D.moment D.left_since disk.old disk.new (D.may_leave disk.old) }
     ensures up { (result ≡ Err ReadOnlyFault.Down) ⊎ IsTrue (D.up disk.new) }
     ensures down { result ≡ Err ReadOnlyFault.Down → D.up disk.new ≡ false }
-    ensures cause { result ≡ Err ReadOnlyFault.Down → Rose (D.downs disk.old) (D.downs disk.new) }
-    ensures counts { (D.downs disk.old ≤ D.downs disk.new) × (D.deads disk.old ≤ D.deads disk.new) }
-    ensures calm { (result ≡ Err ReadOnlyFault.Down) ⊎ (D.downs disk.new ≡ D.downs disk.old) }
-    ensures one { (D.downs disk.new ≤ D.downs disk.old + 1) × (D.deads disk.new ≡ D.deads disk.old) }
+    ensures counts { CountsStop D.downs D.deads (result ≡ Err ReadOnlyFault.Down) disk.old disk.new }
 {
     let file = read_all(alloc, disk)?;
     let part = part_from(&file, start as usize);
@@ -97,10 +93,7 @@ pub fn read_only<D: Disk>(alloc: Global, disk: &mut D) -> Result<Vec<Vec<u8>>, R
     ensures any_moment { LeavesOnly D.moment D.left_since disk.old disk.new (D.may_leave disk.old) }
     ensures up { (result ≡ Err ReadOnlyFault.Down) ⊎ IsTrue (D.up disk.new) }
     ensures down { result ≡ Err ReadOnlyFault.Down → D.up disk.new ≡ false }
-    ensures cause { result ≡ Err ReadOnlyFault.Down → Rose (D.downs disk.old) (D.downs disk.new) }
-    ensures counts { (D.downs disk.old ≤ D.downs disk.new) × (D.deads disk.old ≤ D.deads disk.new) }
-    ensures calm { (result ≡ Err ReadOnlyFault.Down) ⊎ (D.downs disk.new ≡ D.downs disk.old) }
-    ensures one { (D.downs disk.new ≤ D.downs disk.old + 1) × (D.deads disk.new ≡ D.deads disk.old) }
+    ensures counts { CountsStop D.downs D.deads (result ≡ Err ReadOnlyFault.Down) disk.old disk.new }
 {
     let blocks = read_blocks(alloc, disk, 0)?;
     Ok(blocks.records)
