@@ -8,7 +8,7 @@ use Rattle.prio3_kinds.specs.Kinds.{functions_of_kind}
 use Rattle.dap_tasks.specs.DistinctLaws.{bytes_eq-turned}
 use Rattle.dap_tasks.specs.Task.{PlainTask, has_name}
 use Rattle.dap_tasks.specs.Tasks.{AreDistinct}
-use Rattle.dap_script.proofs.OptionLemmas.{map_or_cases}
+use Rattle.dap_script.specs.OptionLaws.{map_or_cases}
 use Rattle.dap_script.specs.Script.{is_among}
 use Rattle.dap_script.specs.declared.line.Line.{Line}
 use Rattle.dap_model.specs.Limits.{Passed, limit_passed, passed_after, reports_offered}

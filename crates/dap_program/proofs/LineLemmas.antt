@@ -2,7 +2,7 @@
 use Rattle.std.proofs.Common.{◌≡◌, ℕ, ◌+◌, ◌<◌, ◌≤◌, List, [], ◌∷◌, length, take, Bool, true, false, nat_lt, if◌then◌else◌, Some, None, Result, Ok, Err, refl, ap, subst, ◌∙◌, suc, zero, arith, length-append}
 use Rattle.std.proofs.lemmas.Bool.Decides.{nat_tests}
 use Rattle.dap_tasks.specs.Task.{PlainTask}
-use Rattle.dap_script.proofs.OptionLemmas.{if_some, map_or_cases}
+use Rattle.dap_script.specs.OptionLaws.{if_some, map_or_cases}
 use Rattle.dap_script.specs.Script.{is_longer, script_beside, task_name, task_names}
 use Rattle.dap_script.specs.declared.line.Line.{Line}
 use Rattle.dap_program.specs.Lines.{IsFull, full_from, full_line_of, later_line_of, lines_run, names_of, with_few_tasks, with_lines}

@@ -9,7 +9,7 @@ use Rattle.std.specs.List.{All, list_all}
 use Rattle.std.specs.Result.{result_ok}
 use Rattle.hex.proofs.HexLemmas.{IsDigits-lower_digits, decode_sized-encode_lower, decode_sized-ok, length-encode_with}
 use Rattle.hex.specs.Hex.{IsBytes, decode_sized, encode_lower, encode_with, hex_digit_value, lower_digits}
-use Rattle.dap_script.proofs.OptionLemmas.{guarded, ok_some}
+use Rattle.dap_script.specs.OptionLaws.{guarded, ok_some}
 use Rattle.dap_script.specs.Fields.{is_lower_hex_digit, octets_of}
 use Rattle.dap_script.specs.Spelling.{IsOctets}
 

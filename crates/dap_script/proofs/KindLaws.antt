@@ -16,12 +16,12 @@ use Rattle.vdaf_api.proofs.Ranges.{is_kind-decides}
 use Rattle.vdaf_api.specs.Kind.{IsKind, is_kind}
 use Rattle.vdaf_api.specs.declared.kind.Kind.TheVariants.{Count, Histogram, Sum}
 use Rattle.vdaf_api.specs.declared.kind.Kind.{Kind}
-use Rattle.dap_script.proofs.NumberLaws.{bounded_of-decimal, bounded_spelled, numbers_of-decimal, numbers_spelled}
-use Rattle.dap_script.proofs.OptionLemmas.{guarded, if_some}
+use Rattle.dap_script.proofs.NumberLaws.{number_of-decimal, number_spelled, numbers_of-decimal, numbers_spelled}
+use Rattle.dap_script.specs.OptionLaws.{guarded, if_some}
 use Rattle.dap_script.proofs.SplitLaws.{All-join_with_byte, Lacks, slice_split-join_with_byte}
 use Rattle.dap_script.proofs.Visible.{IsVisible, digits_of-decimal, is_visible, visible_decimal}
 use Rattle.dap_script.proofs.WordLaws.{listed}
-use Rattle.dap_script.specs.Fields.{◌>>=◌, bounded_of, count_of, histogram_of, kind_of, numbers_of, ranged, sum_of}
+use Rattle.dap_script.specs.Fields.{◌>>=◌, number_of, count_of, histogram_of, kind_of, numbers_of, ranged, sum_of}
 use Rattle.dap_script.specs.Spelling.{HasWords, kind_words}
 use Rattle.dap_script.specs.Words.{is_comma, word}
 
@@ -41,10 +41,11 @@ sum_spelled : (parts : List (List ℕ)) (kind : Kind) → sum_of parts ≡ Some 
 sum_spelled parts kind h =
     let g = guarded (nat_eq (length parts) 1) _ kind h in
     let all = listed 1 parts g.0 in
-    option_and_then_some _ (bounded_of 1 64 (word parts 0)) kind g.1 (λ bits e h1.
-    let b = bounded_spelled 1 64 (word parts 0) bits e in
-    subst (SpellKind (codes "sum" ∷ parts)) (same_Some (Sum bits) kind h1)
-    (ap (λ (ps : List (List ℕ)). codes "sum" ∷ ps) (cc (all, b.0)), (b.1, b.2), tt))
+    option_and_then_some _ (number_of (word parts 0)) kind g.1 (λ bits e h1.
+    let b = number_spelled (word parts 0) bits e in
+    let r = guarded (is_kind (Sum bits)) (Some (Sum bits)) kind h1 in
+    subst (SpellKind (codes "sum" ∷ parts)) (same_Some (Sum bits) kind r.1)
+    (ap (λ (ps : List (List ℕ)). codes "sum" ∷ ps) (cc (all, b.0)), (is_kind-decides (Sum bits)).0 r.0, tt))
 
 histogram_spelled : (parts : List (List ℕ)) (kind : Kind) → histogram_of parts ≡ Some kind → SpellKind (codes "histogram" ∷ parts) kind
 histogram_spelled parts kind h =
@@ -84,7 +85,7 @@ slice_split-bounds bounds some h =
 
 pub kind_of-kind_words : (kind : Kind) → IsKind kind → HasWords kind → kind_of (kind_words kind) ≡ Some kind
 kind_of-kind_words Count k h = refl
-kind_of-kind_words (Sum bits) k h = rw (bounded_of-decimal 1 64 bits k.0 k.1 (omega arith)) refl
+kind_of-kind_words (Sum bits) k h = rw (number_of-decimal bits (omega (arith, k.1)), (is_kind-decides (Sum bits)).1 k) refl
 kind_of-kind_words (Histogram bounds) k h =
     let valid : is_kind (Histogram bounds) ≡ true = (is_kind-decides (Histogram bounds)).1 k in
     ap (λ (words : List (List ℕ)). numbers_of words >>= λ numbers. ranged (Histogram numbers)) (slice_split-bounds bounds k.some h)

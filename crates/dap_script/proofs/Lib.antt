@@ -7,7 +7,6 @@ pub mod ListLemmas
 pub mod NameLaws
 pub mod NumberLaws
 pub mod NumberLemmas
-pub mod OptionLemmas
 pub mod PrintLemmas
 pub mod ReportLaws
 pub mod ReportLemmas

@@ -14,18 +14,19 @@ use Rattle.std.specs.Str.{bytes_eq}
 use Rattle.base64.specs.GeneralPurpose.{IsBytes}
 use Rattle.dap_bytes.specs.Shown.{node_word}
 use Rattle.dap_bytes.specs.Name.{name_of}
+use Rattle.dap_bytes.specs.declared.limits.TheConstants.{GREATEST_MINIMUM, GREATEST_PRECISION, LATEST_TIME}
 use Rattle.dap_bytes.specs.declared.node.Node.TheVariants.{Helper, Leader}
 use Rattle.dap_bytes.specs.declared.node.Node.{Node}
 use Rattle.vdaf_api.specs.declared.kind.Kind.{Kind}
 use Rattle.dap_script.proofs.HexLaws.{octets_of-encode_lower, octets_spelled}
 use Rattle.dap_script.proofs.KindLaws.{kind_of-kind_words, kind_spelled, visible_kind}
-use Rattle.dap_script.proofs.NumberLaws.{bounded_of-decimal, bounded_spelled}
-use Rattle.dap_script.proofs.OptionLemmas.{guarded, if_some}
+use Rattle.dap_script.proofs.NumberLaws.{bounded_of-decimal, bounded_spelled, number_of-decimal, number_spelled}
+use Rattle.dap_script.specs.OptionLaws.{guarded, if_some}
 use Rattle.dap_script.proofs.ReportLaws.{report_of-encode_of, report_spelled, visible_report}
 use Rattle.dap_script.proofs.SplitLaws.{All-join_with_byte, Lacks, slice_split-join_with_byte}
 use Rattle.dap_script.proofs.Visible.{IsVisible, is_visible, visible_decimal, visible_hex, visible_name}
 use Rattle.dap_script.proofs.WordLaws.{All-slice_split, cut_fields, last_field, listed, middle_fields, name_of-itself, name_spelled, second_last_field}
-use Rattle.dap_script.specs.Fields.{◌>>=◌, bounded_of, kind_of, node_of, octets_of, report_of}
+use Rattle.dap_script.specs.Fields.{◌>>=◌, bounded_of, kind_of, node_of, number_of, octets_of, report_of}
 use Rattle.dap_script.specs.Line.{collect_of, is_blank, kind_fields, line_of, line_of_words, measure_of, now_of, restart_of, task_of, task_with, upload_of}
 use Rattle.dap_script.specs.Spelling.{IsInRange, SpellsLine, kind_words, spelling, words_of}
 use Rattle.dap_script.specs.Words.{is_line_char, is_space, word}
@@ -44,12 +45,12 @@ task_spelled fields line h =
     let cut = cut_fields fields (leb-true 3 (length fields) g.0) in
     option_and_then_some _ (kind_of (kind_fields fields)) line g.1 (λ kind ekind h1.
     option_and_then_some _ (name_of (word fields 0)) line h1 (λ name ename h2.
-    option_and_then_some _ (bounded_of 1 1000000 (word fields (length fields - 2))) line h2 (λ min emin h3.
-    option_and_then_some _ (bounded_of 1 1000000000 (word fields (length fields - 1))) line h3 (λ precision eprecision h4.
+    option_and_then_some _ (bounded_of 1 GREATEST_MINIMUM (word fields (length fields - 2))) line h2 (λ min emin h3.
+    option_and_then_some _ (bounded_of 1 GREATEST_PRECISION (word fields (length fields - 1))) line h3 (λ precision eprecision h4.
     let k = kind_spelled (kind_fields fields) kind ekind in
     let n = name_spelled (word fields 0) name ename in
-    let m = bounded_spelled 1 1000000 (word fields (length fields - 2)) min emin in
-    let p = bounded_spelled 1 1000000000 (word fields (length fields - 1)) precision eprecision in
+    let m = bounded_spelled 1 GREATEST_MINIMUM (word fields (length fields - 2)) min emin in
+    let p = bounded_spelled 1 GREATEST_PRECISION (word fields (length fields - 1)) precision eprecision in
     subst (Spell (codes "task" ∷ fields)) (same_Some (Task name kind min precision) line h4)
     (ap (λ (fs : List (List ℕ)). codes "task" ∷ fs) (cc (cut, k.0, n.0, m.0, p.0)), (n.1, k.1, m.1, m.2, p.1, p.2, k.2))))))
 
@@ -57,8 +58,8 @@ now_spelled : (fields : List (List ℕ)) (line : Line) → now_of fields ≡ Som
 now_spelled fields line h =
     let g = guarded (nat_eq (length fields) 1) _ line h in
     let all = listed 1 fields g.0 in
-    option_and_then_some _ (bounded_of 0 999999999999999999 (word fields 0)) line g.1 (λ t e h1.
-    let s = bounded_spelled 0 999999999999999999 (word fields 0) t e in
+    option_and_then_some _ (bounded_of 0 LATEST_TIME (word fields 0)) line g.1 (λ t e h1.
+    let s = bounded_spelled 0 LATEST_TIME (word fields 0) t e in
     subst (Spell (codes "now" ∷ fields)) (same_Some (Now t) line h1) (ap (λ (fs : List (List ℕ)). codes "now" ∷ fs) (cc (all, s.0)), s.2))
 
 measure_spelled : (fields : List (List ℕ)) (line : Line) → measure_of fields ≡ Some line → Spell (codes "measure" ∷ fields) line
@@ -67,16 +68,16 @@ measure_spelled fields line h =
     let all = listed 5 fields g.0 in
     option_and_then_some _ (name_of (word fields 0)) line g.1 (λ name ename h1.
     option_and_then_some _ (octets_of (word fields 1)) line h1 (λ id eid h2.
-    option_and_then_some _ (bounded_of 0 999999999999999999 (word fields 2)) line h2 (λ time etime h3.
-    option_and_then_some _ (bounded_of 0 18446744073709551615 (word fields 3)) line h3 (λ value evalue h4.
+    option_and_then_some _ (bounded_of 0 LATEST_TIME (word fields 2)) line h2 (λ time etime h3.
+    option_and_then_some _ (number_of (word fields 3)) line h3 (λ value evalue h4.
     option_and_then_some _ (octets_of (word fields 4)) line h4 (λ seed eseed h5.
     let n = name_spelled (word fields 0) name ename in
     let i = octets_spelled (word fields 1) id eid in
-    let t = bounded_spelled 0 999999999999999999 (word fields 2) time etime in
-    let v = bounded_spelled 0 18446744073709551615 (word fields 3) value evalue in
+    let t = bounded_spelled 0 LATEST_TIME (word fields 2) time etime in
+    let v = number_spelled (word fields 3) value evalue in
     let s = octets_spelled (word fields 4) seed eseed in
     subst (Spell (codes "measure" ∷ fields)) (same_Some (Measure name id time value seed) line h5)
-    (ap (λ (fs : List (List ℕ)). codes "measure" ∷ fs) (cc (all, n.0, i.0, t.0, v.0, s.0)), (n.1, i.1, t.2, v.3, s.1)))))))
+    (ap (λ (fs : List (List ℕ)). codes "measure" ∷ fs) (cc (all, n.0, i.0, t.0, v.0, s.0)), (n.1, i.1, t.2, v.1, s.1)))))))
 
 line_char_is_byte : (c : ℕ) → is_line_char c ≡ true → c < 256
 line_char_is_byte c h = grind (arith, nat_tests)
@@ -106,9 +107,9 @@ collect_spelled fields line h =
     let g = guarded (nat_eq (length fields) 2) _ line h in
     let all = listed 2 fields g.0 in
     option_and_then_some _ (name_of (word fields 0)) line g.1 (λ name ename h1.
-    option_and_then_some _ (bounded_of 0 999999999999999999 (word fields 1)) line h1 (λ start estart h2.
+    option_and_then_some _ (bounded_of 0 LATEST_TIME (word fields 1)) line h1 (λ start estart h2.
     let n = name_spelled (word fields 0) name ename in
-    let s = bounded_spelled 0 999999999999999999 (word fields 1) start estart in
+    let s = bounded_spelled 0 LATEST_TIME (word fields 1) start estart in
     subst (Spell (codes "collect" ∷ fields)) (same_Some (Collect name start) line h2)
     (ap (λ (fs : List (List ℕ)). codes "collect" ∷ fs) (cc (all, n.0, s.0)), (n.1, s.2))))
 
@@ -211,19 +212,19 @@ line_of_words-words_of : (line : Line) → 0 < length (words_of line) → IsInRa
 line_of_words-words_of Blank some h = absurd (omega arith)
 line_of_words-words_of (Task name kind min precision) some h =
     task_of-fields name (kind_words kind) (decimal min) (decimal precision) kind (kind_of-kind_words kind h.1 h.6)
-    ∙ rw (name_of-itself name h.0, bounded_of-decimal 1 1000000 min h.2 h.3 (omega (arith, h.3)), bounded_of-decimal 1 1000000000 precision h.4 h.5 (omega (arith, h.5))) refl
-line_of_words-words_of (Now t) some h = rw (bounded_of-decimal 0 999999999999999999 t (omega arith) h (omega arith)) refl
+    ∙ rw (name_of-itself name h.0, bounded_of-decimal 1 GREATEST_MINIMUM min h.2 h.3 (omega (arith, h.3)), bounded_of-decimal 1 GREATEST_PRECISION precision h.4 h.5 (omega (arith, h.5))) refl
+line_of_words-words_of (Now t) some h = rw (bounded_of-decimal 0 LATEST_TIME t (omega arith) h (omega arith)) refl
 line_of_words-words_of (Measure name id time value seed) some h =
     rw (
       name_of-itself name h.0,
       octets_of-encode_lower id h.1,
-      bounded_of-decimal 0 999999999999999999 time (omega arith) h.2 (omega arith),
-      bounded_of-decimal 0 18446744073709551615 value (omega arith) (omega arith) h.3,
+      bounded_of-decimal 0 LATEST_TIME time (omega arith) h.2 (omega arith),
+      number_of-decimal value h.3,
       octets_of-encode_lower seed h.4,
     ) refl
 line_of_words-words_of (Upload report) some h = ap (λ o. o >>= λ bytes. Some (Upload bytes)) (report_of-encode_of report h.0 h.1)
 line_of_words-words_of (Collect name start) some h =
-    rw (name_of-itself name h.0, bounded_of-decimal 0 999999999999999999 start (omega arith) h.1 (omega arith)) refl
+    rw (name_of-itself name h.0, bounded_of-decimal 0 LATEST_TIME start (omega arith) h.1 (omega arith)) refl
 line_of_words-words_of (Restart Leader) some h = refl
 line_of_words-words_of (Restart Helper) some h = refl
 

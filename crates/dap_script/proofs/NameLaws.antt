@@ -1,12 +1,13 @@
 -- No name stands in two task lines, and none of the names in one, exactly where each line may follow those before it.
-use Rattle.std.proofs.Common.{◌≡◌, ℕ, List, [], ◌∷◌, ◌++◌, Bool, true, false, ◌||◌, not, refl, sym, ap, subst, ◌∙◌}
-use Rattle.std.proofs.lemmas.Bool.{or_from, or_parts}
+use Rattle.std.proofs.Common.{◌≡◌, ℕ, List, [], ◌∷◌, ◌++◌, Bool, true, false, ◌&&◌, ◌||◌, not, refl, sym, ap, subst, ◌∙◌}
+use Rattle.std.proofs.lemmas.Bool.{and_parts, or_from, or_parts}
+use Rattle.std.proofs.lemmas.List.Folds.{list_any-append}
 use Rattle.std.proofs.lemmas.List.Elements.{All-append, All-cons, All-head, All-nil}
 use Rattle.std.proofs.lemmas.List.{append-nil, append_assoc}
 use Rattle.std.specs.List.{All, AllByRecursion, IsDistinct, list_any}
 use Rattle.std.specs.Str.{bytes_eq}
 use Rattle.dap_script.proofs.WordLaws.{All-left, All-right}
-use Rattle.dap_script.specs.Script.{follows, is_among, names_task, task_name, task_names}
+use Rattle.dap_script.specs.Script.{follows, is_among, is_new, names_task, task_name, task_names}
 use Rattle.dap_script.specs.declared.line.Line.TheVariants.{Blank, Collect, Measure, Now, Restart, Task, Upload}
 use Rattle.dap_script.specs.declared.line.Line.{Line}
 
@@ -60,16 +61,12 @@ task_names-append [] after = refl
 task_names-append (line ∷ before) after =
     ap (λ (names : List (List ℕ)). task_name line ++ names) (task_names-append before after) ∙ sym (append_assoc (task_name line) (task_names before) (task_names after))
 
--- the names of the lines tell whether one of them names a task
-any_names : (name : List ℕ) (lines : List Line) → list_any (names_task name) lines ≡ list_any (λ x. bytes_eq x name) (task_names lines)
+-- one of the lines is a task line of this name exactly where their names have it
+any_names : (name : List ℕ) (lines : List Line) → list_any (names_task name) lines ≡ is_among (task_names lines) name
 any_names name [] = refl
-any_names name (Blank ∷ lines) = any_names name lines
-any_names name (Task other kind min precision ∷ lines) = ap (λ b. bytes_eq other name || b) (any_names name lines)
-any_names name (Now t ∷ lines) = any_names name lines
-any_names name (Measure other id time value seed ∷ lines) = any_names name lines
-any_names name (Upload report ∷ lines) = any_names name lines
-any_names name (Collect other start ∷ lines) = any_names name lines
-any_names name (Restart node ∷ lines) = any_names name lines
+any_names name (line ∷ lines) =
+    ap (λ b. names_task name line || b) (any_names name lines)
+    ∙ sym (list_any-append (λ x. bytes_eq x name) (task_name line) (task_names lines))
 
 negated : (b : Bool) → not b ≡ true → b ≡ false
 negated true h = cc h
@@ -96,7 +93,7 @@ no_new_name names before h line none =
 -- one more line
 pub free_next : (names : List (List ℕ)) (before : List Line) (line : Line) → AreFree names before → follows names before line ≡ true → AreFree names (before ++ line ∷ [])
 free_next names before (Task name kind min precision) h f =
-    let new = or_parts (is_among names name) (list_any (names_task name) before) (negated _ f) in
+    let new = or_parts (is_among names name) (list_any (names_task name) before) (negated _ (and_parts (is_new names before name) true f).0) in
     let all : task_names (before ++ Task name kind min precision ∷ []) ≡ task_names before ++ name ∷ [] = task_names-append before (Task name kind min precision ∷ []) in
     let Other : List ℕ → Type 0 = λ x. is_among names x ≡ false in
     record {
@@ -118,7 +115,8 @@ follows_others names before (Task name kind min precision) after h =
     let Other : List ℕ → Type 0 = λ x. is_among names x ≡ false in
     let new : Other name =
     All-head Other name (task_names after) (All-right Other (task_names before) (name ∷ task_names after) (subst (All Other) all h.others)) in
-    ap not (or_from _ _ new (any_names name before ∙ none_before (task_names before) name (task_names after) (subst AreDistinct all h.distinct)))
+    ap (λ b. not b && true)
+    (or_from _ _ new (any_names name before ∙ none_before (task_names before) name (task_names after) (subst AreDistinct all h.distinct)))
 follows_others names before Blank after h = refl
 follows_others names before (Now t) after h = refl
 follows_others names before (Measure name id time value seed) after h = refl

@@ -11,7 +11,7 @@ use Rattle.base64.proofs.EngineFacts.{decode_of-encode_of, decode_of_strict}
 use Rattle.base64.specs.Engines.{standard}
 use Rattle.base64.specs.GeneralPurpose.{IsBytes, decode_of, decoded_of, encode_of, engine_symbols}
 use Rattle.base64.specs.Rfc4648.{encode_group, encode_one, encode_symbols, encode_two, padding_len}
-use Rattle.dap_script.proofs.OptionLemmas.{guarded, ok_some}
+use Rattle.dap_script.specs.OptionLaws.{guarded, ok_some}
 use Rattle.dap_script.proofs.ReportLemmas.{report_of-decoded}
 use Rattle.dap_script.proofs.Visible.{IsVisible, is_visible}
 use Rattle.dap_script.specs.Fields.{is_byte, report_of, some_bytes}

@@ -7,7 +7,7 @@ use Rattle.std.proofs.lemmas.Option.{same_Some}
 use Rattle.std.specs.List.{All}
 use Rattle.dap_script.proofs.LineLaws.{line_of-spelled, line_spelled}
 use Rattle.dap_script.proofs.NameLaws.{AreFree, follows_others, free_before, free_next, free_none}
-use Rattle.dap_script.proofs.OptionLemmas.{guarded, map_or_cases}
+use Rattle.dap_script.specs.OptionLaws.{guarded, map_or_cases}
 use Rattle.dap_script.proofs.TextLaws.{lines_of-spelled, lines_spelled}
 use Rattle.dap_script.specs.Line.{line_of}
 use Rattle.dap_script.specs.Script.{follows, is_among, line_after, lines_of, read_after, script_beside, task_names}

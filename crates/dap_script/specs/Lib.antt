@@ -1,5 +1,6 @@
 pub mod Fields
 pub mod Line
+pub mod OptionLaws
 pub mod Reads
 pub mod Script
 pub mod Spelling

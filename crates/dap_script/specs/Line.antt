@@ -3,8 +3,9 @@ use Rattle.std.specs.Prelude.{ℕ, ◌-◌, List, [], ◌∷◌, length, take, d
 use Rattle.std.specs.List.{list_all, slice_split}
 use Rattle.std.specs.Str.{bytes_eq}
 use Rattle.dap_bytes.specs.Name.{name_of}
+use Rattle.dap_bytes.specs.declared.limits.TheConstants.{GREATEST_MINIMUM, GREATEST_PRECISION, LATEST_TIME}
 use Rattle.vdaf_api.specs.declared.kind.Kind.{Kind}
-use Rattle.dap_script.specs.Fields.{◌>>=◌, bounded_of, kind_of, node_of, octets_of, report_of}
+use Rattle.dap_script.specs.Fields.{◌>>=◌, bounded_of, kind_of, node_of, number_of, octets_of, report_of}
 use Rattle.dap_script.specs.Words.{word, is_line_char, is_number_sign, is_space}
 use Rattle.dap_script.specs.declared.line.Line.{Line}
 use Rattle.dap_script.specs.declared.line.Line.TheVariants.{Blank, Task, Now, Measure, Upload, Collect, Restart}
@@ -13,8 +14,8 @@ use Rattle.dap_script.specs.declared.line.Line.TheVariants.{Blank, Task, Now, Me
 abbrev pub task_with : List ℕ → Kind → List ℕ → List ℕ → Option Line
 task_with name kind min precision = do
   name ← name_of name
-  min ← bounded_of 1 1000000 min
-  precision ← bounded_of 1 1000000000 precision
+  min ← bounded_of 1 GREATEST_MINIMUM min
+  precision ← bounded_of 1 GREATEST_PRECISION precision
   Some (Task name kind min precision)
 
 -- the words of a task line's kind: all fields but the first and the last two
@@ -30,7 +31,7 @@ task_of fields = if nat_le 3 (length fields) then (do
 -- `now T`, after the keyword
 abbrev pub now_of : List (List ℕ) → Option Line
 now_of fields = if nat_eq (length fields) 1 then (do
-  t ← bounded_of 0 999999999999999999 (word fields 0)
+  t ← bounded_of 0 LATEST_TIME (word fields 0)
   Some (Now t)) else None
 
 -- `measure NAME ID TIME VALUE SEED`, after the keyword
@@ -38,8 +39,8 @@ abbrev pub measure_of : List (List ℕ) → Option Line
 measure_of fields = if nat_eq (length fields) 5 then (do
   name ← name_of (word fields 0)
   id ← octets_of (word fields 1)
-  time ← bounded_of 0 999999999999999999 (word fields 2)
-  value ← bounded_of 0 18446744073709551615 (word fields 3)
+  time ← bounded_of 0 LATEST_TIME (word fields 2)
+  value ← number_of (word fields 3)
   seed ← octets_of (word fields 4)
   Some (Measure name id time value seed)) else None
 
@@ -53,7 +54,7 @@ upload_of fields = if nat_eq (length fields) 1 then (do
 abbrev pub collect_of : List (List ℕ) → Option Line
 collect_of fields = if nat_eq (length fields) 2 then (do
   name ← name_of (word fields 0)
-  start ← bounded_of 0 999999999999999999 (word fields 1)
+  start ← bounded_of 0 LATEST_TIME (word fields 1)
   Some (Collect name start)) else None
 
 -- `restart NODE`, after the keyword

@@ -8,6 +8,7 @@ use Rattle.base64.specs.GeneralPurpose.{encode_of}
 use Rattle.hex.specs.Hex.{encode_lower}
 use Rattle.dap_bytes.specs.Name.{IsName}
 use Rattle.dap_bytes.specs.Shown.{node_word}
+use Rattle.dap_bytes.specs.declared.limits.TheConstants.{GREATEST_MINIMUM, GREATEST_PRECISION, LATEST_TIME}
 use Rattle.vdaf_api.specs.Kind.{IsKind}
 use Rattle.vdaf_api.specs.declared.kind.Kind.{Kind}
 use Rattle.vdaf_api.specs.declared.kind.Kind.TheVariants.{Count, Sum, Histogram}
@@ -37,6 +38,10 @@ words_of (Restart node) = codes "restart" ∷ node_word node ∷ []
 abbrev pub spelling : Line → List ℕ
 spelling line = join_with_byte 32 (words_of line)
 
+-- the words, and a line feed behind them
+abbrev pub ended : Line → List ℕ
+ended line = spelling line ++ 10 ∷ []
+
 -- each is below 256
 abbrev pub AreBytes : List ℕ → Type 0
 AreBytes bytes = All (λ byte. byte < 256) bytes
@@ -55,12 +60,13 @@ HasWords (Histogram bounds) = All (λ bound. bound < 2 ^ 64) bounds
 abbrev pub IsInRange : Line → Type 0
 IsInRange Blank = Unit {0}
 IsInRange (Task name kind min precision) =
-    IsName name × IsKind kind × (1 ≤ min) × (min ≤ 1000000) × (1 ≤ precision) × (precision ≤ 1000000000) × HasWords kind
-IsInRange (Now t) = t ≤ 999999999999999999
+    IsName name × IsKind kind × (1 ≤ min) × (min ≤ GREATEST_MINIMUM)
+    × (1 ≤ precision) × (precision ≤ GREATEST_PRECISION) × HasWords kind
+IsInRange (Now t) = t ≤ LATEST_TIME
 IsInRange (Measure name id time value seed) =
-    IsName name × IsOctets id × (time ≤ 999999999999999999) × (value < 2 ^ 64) × IsOctets seed
+    IsName name × IsOctets id × (time ≤ LATEST_TIME) × (value < 2 ^ 64) × IsOctets seed
 IsInRange (Upload report) = (0 < length report) × AreBytes report
-IsInRange (Collect name start) = IsName name × (start ≤ 999999999999999999)
+IsInRange (Collect name start) = IsName name × (start ≤ LATEST_TIME)
 IsInRange (Restart node) = Unit {0}
 
 -- a number sign, and ASCII characters but the line feed after it
@@ -122,7 +128,7 @@ pub record IsReadable (names texts : List (List ℕ)) : Type 0 where
   pub spelled : SpellEach texts lines
   pub is_script : IsScriptBeside names lines
 
--- Line n, counted from 1, is the first for which the lines up to and with it are not those of a script beside these names.
+-- Line n, counted from 1, is the first with which the lines so far are not those of a script beside these names.
 pub record IsFirstFault (names : List (List ℕ)) (bytes : List ℕ) (n : ℕ) : Type 0 where
   pub some : 1 ≤ n
   pub within : n ≤ length (lines_of bytes)

@@ -6,7 +6,7 @@ ghost use Rattle.std.specs.Option.{option_map};
 ghost use Rattle.dap_script.specs.Fields.{numbers_of, count_of, sum_of, ranged, histogram_of, form_of, kind_of};
 ghost use Rattle.dap_script.specs.Words.{texts, is_comma};
 
-use crate::fields::{bounded, number};
+use crate::fields::number;
 use std::alloc::{AllocError, Global};
 use vdaf_api::{Bounds, Kind};
 
@@ -17,6 +17,13 @@ fn count(parts: &[&str]) -> Option<Kind>
     parts.is_empty().then_some(Kind::Count)
 }
 
+/// The kind, if it is within its ranges.
+fn ranged(kind: Kind) -> Option<Kind>
+    ensures { result ≡ ranged kind }
+{
+    if kind.is_valid() { Some(kind) } else { None }
+}
+
 /// `BITS`
 fn sum(parts: &[&str]) -> Option<Kind>
     ensures { result ≡ sum_of (texts parts.now) }
@@ -24,8 +31,8 @@ fn sum(parts: &[&str]) -> Option<Kind>
     let [bits] = *parts else {
         return None;
     };
-    let bits = bounded(bits, 1, 64)? as u8;
-    Some(Kind::Sum { bits })
+    let bits = u8::try_from(number(bits)?).ok()?;
+    ranged(Kind::Sum { bits })
 }
 
 /// The parts between the commas of a text.
@@ -47,13 +54,6 @@ fn numbers(alloc: Global, words: &[&str]) -> Result<Option<Vec<u64>>, AllocError
         }
     }
     Ok(Some(numbers))
-}
-
-/// The kind, if it is within its ranges.
-fn ranged(kind: Kind) -> Option<Kind>
-    ensures { result ≡ ranged kind }
-{
-    if kind.is_valid() { Some(kind) } else { None }
 }
 
 /// `B0,B1`

@@ -11,9 +11,9 @@ pub fn lines_are_spelled()
     ensures { (text : List ℕ) (line : PlainLine) → (line_of text ≡ Some line) ↔ SpellsLine text line }
 {}
 
-/// A law: bytes are read as a script's lines beside some names exactly where they spell these lines, in this order, each
-/// with a line feed at its end, which the last may lack, and before which a carriage return may stand; and where no two
-/// task lines have the same name, and none has one of the names. Without names the last adds nothing.
+/// A law: bytes are read as a script's lines beside some names exactly where they spell these lines, in this order,
+/// each with a line feed at its end, which the last may lack, and before which a carriage return may stand; and where
+/// no two task lines have the same name, and none has one of the names. Without names the last adds nothing.
 pub fn scripts_are_spelled()
     ensures beside { (names : List (List ℕ)) (bytes : List ℕ) (lines : List PlainLine)
         → (script_beside names bytes ≡ Ok lines) ↔ SpellsScript names bytes lines }

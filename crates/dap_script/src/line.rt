@@ -5,7 +5,7 @@ ghost use Rattle.std.specs.List.{slice_split, list_all};
 ghost use Rattle.dap_script.specs.Line.{is_blank};
 ghost use Rattle.dap_script.specs.Words.{texts, is_line_char, is_space};
 
-use crate::fields::{bounded, node, octets, report, small};
+use crate::fields::{bounded, node, number, octets, report, small};
 use crate::kind::kind;
 use dap_bytes::{Bytes, GREATEST_MINIMUM, GREATEST_PRECISION, Id, LATEST_TIME, Name, Node};
 use std::alloc::{AllocError, Global};
@@ -16,15 +16,15 @@ use vdaf_api::Kind;
 pub enum Line {
     /// An empty line or a comment, which begins with `#`.
     Blank,
-    /// A task: its name, what it measures, how many reports a batch must have to be collected (1 to 1,000,000), and
-    /// the length of its batches in units of time (1 to 1,000,000,000).
+    /// A task: its name, what it measures, how many reports a batch must have to be collected (1 to
+    /// `GREATEST_MINIMUM`), and the length of its batches in units of time (1 to `GREATEST_PRECISION`).
     Task {
         name: Name,
         kind: Kind,
         min: u32,
         precision: u32,
     },
-    /// The moment rises to a time (at most 999,999,999,999,999,999, as each time).
+    /// The moment rises to a time (at most `LATEST_TIME`, as each time).
     Now {
         t: u64,
     },
@@ -53,7 +53,8 @@ pub enum Line {
 }
 
 impl Line {
-    ghost use Rattle.dap_script.specs.Line.{line_of, line_of_words, task_with, task_of, now_of, measure_of, upload_of, collect_of, restart_of};
+    ghost use Rattle.dap_script.specs.Line.{task_with, task_of, now_of, measure_of, upload_of, collect_of, restart_of};
+    ghost use Rattle.dap_script.specs.Line.{line_of, line_of_words};
 
     fn task_with(name: &str, kind: Kind, min: &str, precision: &str) -> Option<Line>
         ensures { result ≡ task_with name.now kind min.now precision.now }
@@ -102,7 +103,7 @@ impl Line {
             name: Name::new(name.as_bytes())?,
             id: octets(id)?,
             time: bounded(time, 0, LATEST_TIME)?,
-            value: bounded(value, 0, u64::MAX)?,
+            value: number(value)?,
             seed: octets(seed)?,
         })
     }

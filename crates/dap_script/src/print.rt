@@ -1,9 +1,9 @@
 //! Printing a task line.
 
-ghost use Rattle.std.specs.Prelude.{◌≡◌, ◌++◌, [], ◌∷◌, map, OnOk, OnErr};
+ghost use Rattle.std.specs.Prelude.{◌≡◌, ◌++◌, map, OnOk, OnErr};
 ghost use Rattle.std.specs.Fmt.{decimal};
 ghost use Rattle.std.specs.List.{join_with_byte};
-ghost use Rattle.dap_script.specs.Spelling.{kind_words, spelling};
+ghost use Rattle.dap_script.specs.Spelling.{ended, kind_words, spelling};
 ghost use Rattle.dap_script.specs.declared.line.Line.TheVariants.{Task};
 
 use dap_bytes::Name;
@@ -79,7 +79,7 @@ pub fn print_task(
     precision: u32,
     out: &mut Vec<u8>,
 ) -> Result<(), AllocError>
-    ensures ok { OnOk result (out.new.items ≡ out.old.items ++ spelling (Task name.now kind.now min precision) ++ 10 ∷ []) }
+    ensures ok { OnOk result (out.new.items ≡ out.old.items ++ ended (Task name.now kind.now min precision)) }
     ensures err { OnErr result (out.new.items ≡ out.old.items) }
 {
     let mut text = Vec::new(alloc);

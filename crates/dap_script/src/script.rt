@@ -1,11 +1,12 @@
 //! Scripts as lists of lines.
 
-ghost use Rattle.std.specs.Prelude.{◌≡◌, map, IfOk};
+ghost use Rattle.std.specs.Prelude.{◌≡◌, map, IfOk, option_map};
 ghost use Rattle.std.specs.Char.{is_newline};
 ghost use Rattle.std.specs.List.{slice_split, list_any};
+ghost use Rattle.std.specs.Option.{option_to_list};
 ghost use Rattle.std.specs.Str.Lines.{strip_carriage_return};
 ghost use Rattle.dap_script.specs.Words.{texts};
-ghost use Rattle.dap_script.specs.Script.{lines_of, names_task, is_among, follows, line_after};
+ghost use Rattle.dap_script.specs.Script.{lines_of, task_name, names_task, is_among, follows, line_after};
 
 use crate::line::Line;
 use dap_bytes::Name;
@@ -55,12 +56,27 @@ pub fn lines(alloc: Global, bytes: &[u8]) -> Result<Vec<&[u8]>, AllocError>
 }
 
 impl Line {
+    /// The name that a task line gives to its task.
+    fn task_name(&self) -> Option<&Name>
+        ensures { option_to_list (option_map (λ name. name.now) result) ≡ task_name self.now }
+    {
+        match self {
+            Line::Task { name, .. } => Some(name),
+            Line::Blank
+            | Line::Now { .. }
+            | Line::Measure { .. }
+            | Line::Upload { .. }
+            | Line::Collect { .. }
+            | Line::Restart { .. } => None,
+        }
+    }
+
     fn names_task(&self, wanted: &Name) -> bool
         ensures { result ≡ names_task wanted.now self.now }
     {
-        match self {
-            Line::Task { name, .. } => name == wanted,
-            _ => false,
+        match self.task_name() {
+            Some(name) => name == wanted,
+            None => false,
         }
     }
 
@@ -68,9 +84,9 @@ impl Line {
     fn follows(&self, names: &[Name], before: &[Line]) -> bool
         ensures { result ≡ follows names.now before.now self.now }
     {
-        match self {
-            Line::Task { name, .. } => !is_among(names, name) && !any_names_task(before, name),
-            _ => true,
+        match self.task_name() {
+            Some(name) => !is_among(names, name) && !any_names_task(before, name),
+            None => true,
         }
     }
 }
@@ -81,10 +97,10 @@ fn is_among(names: &[Name], wanted: &Name) -> bool
     names.iter().any(|name| name == wanted)
 }
 
-fn any_names_task(lines: &[Line], name: &Name) -> bool
-    ensures { result ≡ list_any (names_task name.now) lines.now }
+fn any_names_task(lines: &[Line], wanted: &Name) -> bool
+    ensures { result ≡ list_any (names_task wanted.now) lines.now }
 {
-    lines.iter().any(|line| line.names_task(name))
+    lines.iter().any(|line| line.names_task(wanted))
 }
 
 /// The line that a text is, if it may follow those before it, beside these names.

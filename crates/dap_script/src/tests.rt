@@ -1,10 +1,11 @@
 //! Scripts and the lines that are refused.
 
 ghost use Rattle.std.specs.Prelude.{◌≤◌, length};
+ghost use Rattle.dap_bytes.specs.declared.limits.TheConstants.{LONGEST_SCRIPT};
 
 use super::*;
-use dap_bytes::{Bytes, Name, Node};
-use std::alloc::Global;
+use dap_bytes::{Bytes, LONGEST_SCRIPT, Name, Node};
+use std::alloc::{AllocError, Global};
 use std::test::Fail;
 use vdaf_api::{Bounds, Kind};
 
@@ -20,51 +21,130 @@ collect v 7200
 restart leader
 restart helper";
 
+/// Lines that are read, each as a script of its own.
+const TAKEN: [&[u8]; 23] = [
+    b"# \x00\x7f\r is a comment",
+    b"# ends with a return\r",
+    b"collect v 999999999999999999",
+    b"collect nnnnnnnnnnnnnnnnnnnnnnnnnnnnnnnn 0",
+    b"now 0",
+    b"now 999999999999999999",
+    b"task v count 1 1",
+    b"task v count 1000000 1",
+    b"task v count 1 1000000000",
+    b"task v sum 1 1 1",
+    b"task v sum 64 1 1",
+    b"task v histogram 0 1 1",
+    b"task v histogram 1,2 1 1",
+    b"task v histogram 18446744073709551615 1 1",
+    b"task v histogram 0,1,2,3,4,5,6,7,8,9,10,11,12,13,14,15,16,17,18,19,20,21,22,23,24,25,26,27,28,29,30,31,32,33,34,35,36,37,38,39,40,41,42,43,44,45,46,47,48,49,50,51,52,53,54,55,56,57,58,59,60,61,62 1 1",
+    b"measure v 000102030405060708090a0b0c0d0e0f 0 0 000102030405060708090a0b0c0d0e0f",
+    b"measure v 000102030405060708090a0b0c0d0e0f 999999999999999999 18446744073709551615 000102030405060708090a0b0c0d0e0f",
+    b"upload Zg==",
+    b"upload Zm8=",
+    b"upload Zm9v",
+    b"upload +/+/",
+    b"restart leader",
+    b"restart helper",
+];
+
+/// Lines that are refused.
+const REFUSED: [&[u8]; 74] = [
+    b"# \x80",
+    b"collect v 0\r",
+    b" # a",
+    b" collect v 0",
+    b"collect\tv 0",
+    b"Collect v 0",
+    b"collect V 0",
+    b"collect v",
+    b"collect v 01",
+    b"collect v 00",
+    b"collect v +1",
+    b"collect v -1",
+    b"collect v ",
+    b"collect v 1_0",
+    b"collect v 1000000000000000000",
+    b"collect v 0 1",
+    b"collect v 18446744073709551616",
+    b"collect nnnnnnnnnnnnnnnnnnnnnnnnnnnnnnnnn 0",
+    b"collect  0",
+    b"collect v/ 0",
+    b"collect v` 0",
+    b"now 1000000000000000000",
+    b"now",
+    b"now 1 2",
+    b"task v count 0 1",
+    b"task v count 1000001 1",
+    b"task v count 1 0",
+    b"task v count 1 1000000001",
+    b"task v count 1",
+    b"task v count 1 1 1",
+    b"task v vote 1 1",
+    b"task v Count 1 1",
+    b"task v",
+    b"task v count",
+    b"task v sum 0 1 1",
+    b"task v sum 65 1 1",
+    b"task v sum 256 1 1",
+    b"task v sum 1 1",
+    b"task v sum 320 1 1",
+    b"task v histogram 1,1 1 1",
+    b"task v histogram 2,1 1 1",
+    b"task v histogram 1,,2 1 1",
+    b"task v histogram ,1 1 1",
+    b"task v histogram 1, 1 1",
+    b"task v histogram  1 1",
+    b"task v histogram 1 1",
+    b"task v histogram 18446744073709551616 1 1",
+    b"task v histogram 01 1 1",
+    b"task v histogram 0,1,2,3,4,5,6,7,8,9,10,11,12,13,14,15,16,17,18,19,20,21,22,23,24,25,26,27,28,29,30,31,32,33,34,35,36,37,38,39,40,41,42,43,44,45,46,47,48,49,50,51,52,53,54,55,56,57,58,59,60,61,62,63 1 1",
+    b"measure v 000102030405060708090a0b0c0d0e0f 1000000000000000000 0 000102030405060708090a0b0c0d0e0f",
+    b"measure v 000102030405060708090a0b0c0d0e0f 0 18446744073709551616 000102030405060708090a0b0c0d0e0f",
+    b"measure v 000102030405060708090a0b0c0d0e0 0 0 000102030405060708090a0b0c0d0e0f",
+    b"measure v 000102030405060708090a0b0c0d0e0f0 0 0 000102030405060708090a0b0c0d0e0f",
+    b"measure v 000102030405060708090a0b0c0d0e0f 0 0 000102030405060708090a0b0c0d0e",
+    b"measure v 000102030405060708090a0b0c0d0e0f 0 0 000102030405060708090a0b0c0d0e0f00",
+    b"measure v 000102030405060708090a0b0c0d0e0F 0 0 000102030405060708090a0b0c0d0e0f",
+    b"measure v 000102030405060708090a0b0c0d0e0f 0 0 000102030405060708090a0b0c0d0e0g",
+    b"measure v 000102030405060708090a0b0c0d0e0f 0 0",
+    b"measure v 000102030405060708090a0b0c0d0e0f 0 0 000102030405060708090a0b0c0d0e0f 0",
+    b"measure v 000102030405060708090a0b0c0d0e`0 0 0 000102030405060708090a0b0c0d0e0f",
+    b"upload Zg=",
+    b"upload Zg",
+    b"upload Zh==",
+    b"upload Zm9=",
+    b"upload ",
+    b"upload",
+    b"upload ====",
+    b"upload Zg== Zg==",
+    b"upload Z-_v",
+    b"restart both",
+    b"restart Leader",
+    b"restart leader helper",
+    b"restart",
+    b"end",
+];
+
 /// Texts, and the line that is refused, or 0 where none is.
-const REFUSALS: [(&[u8], u32); 34] = [
+const SCRIPTS: [(&[u8], u32); 11] = [
     (b"", 0),
     (b"\n\r\n#\n# a \xc2", 4),
-    (b"# ends with a return\r", 0),
     (b"\n\r", 2),
     (b"\r\r\n", 1),
-    (b"collect v 0\r", 1),
     (b" \n", 1),
     (b"collect v 0 \n", 1),
     (b"collect  v 0\n", 1),
-    (b"Collect v 0", 1),
-    (b"collect V 0", 1),
-    (b"collect v 01", 1),
-    (b"collect v +1", 1),
-    (b"collect v -1", 1),
-    (b"collect v 1000000000000000000", 1),
-    (b"collect v 0 1", 1),
-    (b"task v count 0 1", 1),
-    (b"task v count 1000001 1", 1),
-    (b"task v count 1 1000000001", 1),
-    (b"task v sum 0 1 1", 1),
-    (b"task v sum 65 1 1", 1),
-    (b"task v histogram 1,1 1 1", 1),
-    (b"task v histogram 1,,2 1 1", 1),
-    (b"task v histogram 18446744073709551616 1 1", 1),
+    (b"task v count 1 1\nmeasure w 0 0 0 0\ntask v count 1 1", 2),
     (
         b"task v histogram 1 1 1\ntask w count 1 1\n\ntask v sum 1 1 1\nx",
         4,
     ),
-    (b"task v count 1 1\nmeasure w 0 0 0 0\ntask v count 1 1", 2),
     (
-        b"measure v 0000000000000000000000000000000A 0 0 00000000000000000000000000000000",
-        1,
+        b"task v count 1 1\ntask w count 1 1\ntask x count 1 1\ntask w sum 1 1 1\n",
+        4,
     ),
-    (
-        b"measure v 0000000000000000000000000000000a 0 18446744073709551616 00000000000000000000000000000000",
-        1,
-    ),
-    (b"now 1000000000000000000", 1),
-    (b"upload Zg==\nupload Zg=", 2),
-    (b"upload Zh==", 1),
-    (b"upload ", 1),
-    (b"restart both", 1),
-    (b"restart leader helper", 1),
+    (b"now 1\nnow 2\nnow 3\nnow 03\nnow 4", 4),
 ];
 
 fn name(text: &[u8]) -> Result<Name, Fail> {
@@ -117,30 +197,61 @@ fn a_script_is_its_lines(rt: HostRuntime) -> Result<(), Fail> {
 }
 
 /// The line that is refused, or 0.
-fn refused(alloc: Global, text: &[u8]) -> u32
-    requires { length text.now ≤ 67108864 }
+fn refused_line(alloc: Global, text: &[u8]) -> Result<u32, AllocError>
+    requires { length text.now ≤ LONGEST_SCRIPT }
 {
     match read_script(alloc, text) {
-        Err(ScriptFault::Refused { line }) => line,
-        _ => 0,
+        Ok(_) => Ok(0),
+        Err(ScriptFault::Refused { line }) => Ok(line),
+        Err(ScriptFault::NoMemory) => Err(AllocError),
     }
 }
 
 #[test]
-fn the_first_line_that_does_not_fit_is_refused(rt: HostRuntime) {
-    for (text, line) in REFUSALS {
-        if text.len() <= 67_108_864 {
-            assert_eq!(rt; refused(rt.alloc(), text), line);
+fn lines_are_read_or_refused(rt: HostRuntime) -> Result<(), Fail> {
+    for text in TAKEN {
+        if text.len() <= LONGEST_SCRIPT {
+            assert_eq!(rt; refused_line(rt.alloc(), text)?, 0);
         }
     }
+    for text in REFUSED {
+        if text.len() <= LONGEST_SCRIPT {
+            assert_eq!(rt; refused_line(rt.alloc(), text)?, 1);
+        }
+    }
+    Ok(())
+}
+
+#[test]
+fn the_first_line_that_does_not_fit_is_refused(rt: HostRuntime) -> Result<(), Fail> {
+    for (text, line) in SCRIPTS {
+        if text.len() <= LONGEST_SCRIPT {
+            assert_eq!(rt; refused_line(rt.alloc(), text)?, line);
+        }
+    }
+    Ok(())
+}
+
+#[test]
+fn faults_are_told_in_words(rt: HostRuntime) -> Result<(), Fail> {
+    let texts = [
+        (ScriptFault::Refused { line: 7 }, "line 7 is refused"),
+        (ScriptFault::NoMemory, "no memory"),
+    ];
+    for (fault, text) in texts {
+        assert_eq!(rt; fault.to_string(rt.alloc())?.as_str(), text);
+    }
+    Ok(())
 }
 
 #[test]
 fn a_task_has_none_of_the_names_that_are_given(rt: HostRuntime) -> Result<(), Fail> {
     let alloc = rt.alloc();
-    let names = [name(b"v")?, name(b"w")?];
+    let names = [name(b"t")?, name(b"u")?, name(b"v")?, name(b"w")?];
     let text = b"task x count 1 1\ncollect w 0\ntask w count 1 1\n";
-    assert!(rt; read_script_beside(alloc, &names[..1], text).is_ok());
+    for known in 0..4 {
+        assert!(rt; read_script_beside(alloc, &names[..known], text).is_ok());
+    }
     assert_eq!(rt;
         read_script_beside(alloc, &names, text).err(),
         Some(ScriptFault::Refused { line: 3 })
@@ -188,7 +299,12 @@ fn a_task_is_printed_as_its_line(rt: HostRuntime) -> Result<(), Fail> {
     )?;
     assert_eq!(rt;
         out.as_slice(),
-        b"# tasks\ntask v count 3 3600\ntask s-1 sum 64 1 1\ntask h histogram 0,10,18446744073709551615 7 20\n".as_slice()
+        b"# tasks
+task v count 3 3600
+task s-1 sum 64 1 1
+task h histogram 0,10,18446744073709551615 7 20
+"
+            .as_slice()
     );
     Ok(())
 }
