@@ -4,20 +4,20 @@ use Rattle.dap_outside.specs.declared.fates.Fate.{Fate}
 use Rattle.dap_outside.specs.declared.fates.Fate.TheVariants.{Deliver, Drop, Twice, Hold}
 
 -- a count after one more, which stands still at its type's end
-abbrev pub counted : ℕ → ℕ
-counted n = max n (min (n + 1) (2 ^ 64 - 1))
+abbrev pub one_more : ℕ → ℕ
+one_more n = max n (min (n + 1) (2 ^ 64 - 1))
 
 -- the number of Drops after a fate
 abbrev pub drops_after : Fate → ℕ → ℕ
 drops_after Deliver n = n
-drops_after Drop n = counted n
+drops_after Drop n = one_more n
 drops_after Twice n = n
 drops_after Hold n = n
 
 -- the number of Drops in a row after a fate
 abbrev pub row_after : Fate → ℕ → ℕ
 row_after Deliver n = 0
-row_after Drop n = counted n
+row_after Drop n = one_more n
 row_after Twice n = 0
 row_after Hold n = 0
 

@@ -1,6 +1,6 @@
 //! Where bytes come from.
 
-ghost use Rattle.std.specs.Prelude.{◌≡◌, ◌≤◌, ◌+◌, ◌↔◌, List, ℕ, Option, Some, drop, length, min, take, IsErr, IsTrue, IfOk, OnOk};
+ghost use Rattle.std.specs.Prelude.{◌≡◌, ◌≤◌, ◌+◌, ◌↔◌, List, ℕ, Option, Some, drop, length, min, take, IsErr, IsTrue, IfOk, OnErr, OnOk};
 ghost use Rattle.std.specs.Io.{ReadsAtMost};
 ghost use Rattle.std.specs.Io.KnownBytes.{ReadConsumes};
 ghost use Rattle.dap_bytes.specs.Causes.{HasCause};
@@ -81,7 +81,8 @@ impl Source for MemSource {
         ensures calm { OnOk result (failed_calls self.new.plan ≡ failed_calls self.old.plan) }
         ensures one { failed_calls self.new.plan ≤ failed_calls self.old.plan + 1 }
 
-        // It fails exactly at the listed calls, and else fills the buffer as far as bytes are left.
+        // It fails exactly at the listed calls, where it leaves the buffer, and else fills it as far as bytes are left.
+        ensures untouched { OnErr result (buf.new ≡ buf.old) }
         ensures fails { IsErr result ↔ IsTrue (read_fails self.old) }
         ensures full { IfOk result (λ n. n ≡ min (length (bytes_left self.old)) (length buf.old)) }
         ensures counted { reads_made self.new ≡ calls_after (reads_made self.old) }

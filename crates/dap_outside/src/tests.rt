@@ -4,6 +4,26 @@ use super::*;
 use std::test::Fail;
 
 #[test]
+fn drops_are_counted_and_any_other_fate_ends_the_row(rt: HostRuntime) {
+    for (fate, row, drops) in [
+        (Fate::Drop, 4, 4),
+        (Fate::Deliver, 0, 3),
+        (Fate::Twice, 0, 3),
+        (Fate::Hold, 0, 3),
+    ] {
+        assert_eq!(rt; (fate.row_after(3), fate.drops_after(3)), (row, drops));
+    }
+    let most = 0xffff_ffff_ffff_ffff;
+    for (count, more) in [(most - 1, most), (most, most)] {
+        let fate = Fate::Drop;
+        assert_eq!(rt;
+            (fate.row_after(count), fate.drops_after(count)),
+            (more, more)
+        );
+    }
+}
+
+#[test]
 fn a_read_takes_from_the_front_and_fails_where_listed(rt: HostRuntime) -> Result<(), Fail> {
     let alloc = rt.alloc();
     let mut source = MemSource::new([7, 8, 9].to_vec(alloc)?, [2].to_vec(alloc)?);

@@ -6,7 +6,7 @@ use Rattle.rtrb.specs.declared.consumer.Consumer.{Consumer}
 use Rattle.rtrb.specs.declared.producer.Producer.{Producer}
 use Rattle.rtrb.specs.Ring.{ConsumerLooked, ProducerLooked, received, known_items, sent, known_free}
 use Rattle.dap_wire.specs.Ring.{in_ring, out_ring}
-use Rattle.dap_wire.specs.Kept.{IsPrefix-trans}
+use Rattle.dap_wire.specs.KeptLaws.{IsPrefix-trans}
 
 pub looked_twice : {T P : Type 0} (a b d : Consumer T Global P) → ConsumerLooked a b → ConsumerLooked b d
     → (in_ring d ≡ in_ring a) × (received d ≡ received a) × IsPrefix (known_items a) (known_items d)

@@ -1,6 +1,6 @@
 pub mod Calls
 pub mod Fated
-pub mod Kept
+pub mod KeptLaws
 pub mod Link
 pub mod Meet
 pub mod Ring
