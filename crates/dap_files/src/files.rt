@@ -45,7 +45,7 @@ fn read_more<F: Read>(file: &mut F, buf: &mut [u8], bytes: &mut Vec<u8>) -> Resu
 }
 
 /// The first 1,048,577 bytes of a reader, or all where there are fewer.
-fn read_front<F: Read>(alloc: Global, file: &mut F) -> Result<Vec<u8>, FileFault>
+pub(crate) fn read_front<F: Read>(alloc: Global, file: &mut F) -> Result<Vec<u8>, FileFault>
     ensures bytes { IfOk result (λ read. IfSome (F.remaining file.old) (λ left. read.items ≡ take 1048577 left)) }
     ensures size { IfOk result (λ read. length read.items ≤ 1048577) }
 {
