@@ -19,7 +19,7 @@ use Rattle.dap_tasks.specs.Task.{PlainTask, has_name}
 use Rattle.dap_tasks.specs.declared.cause.Cause.TheVariants as cause
 use Rattle.dap_script.specs.declared.line.Line.{Line}
 use Rattle.dap_script.specs.declared.line.Line.TheVariants as line
-use Rattle.dap_model.specs.Counts.{AreTaken, IsTaken, collects, counted, falls_in, measured, vectors_in}
+use Rattle.dap_model.specs.Counts.{AreTaken, IsTaken, collects, counted_line, falls_in, measured, vectors_in}
 use Rattle.dap_model.specs.Run.{state_after}
 use Rattle.dap_model.specs.State.{State, content_of, contents_in, in_batch, is_collected, opening, rejected_in}
 use Rattle.dap_model.specs.Step.{Outcome, collect_of, refused, step}
@@ -131,7 +131,7 @@ module _ (f : Kind → Functions) (tasks : List PlainTask) where
 
   pub batch_is_counted : ((k : Kind) → IsKind k → FunctionLaws (f k)) → (task : PlainTask) → find (has_name task.name) tasks ≡ Some task → (start k : ℕ) (lines : List Line)
       → start % task.precision ≡ 0 → AreTaken f tasks [] lines → list_any (collects task.name start) lines ≡ false
-      → (step f (state_after f (opening tasks) 1 lines) k (line.Collect task.name start)).1 ≡ counted f task start lines ∷ []
+      → (step f (state_after f (opening tasks) 1 lines) k (line.Collect task.name start)).1 ≡ counted_line f task start lines ∷ []
   batch_is_counted laws task known start k lines aligned taken open_ =
       let s : State = state_after f (opening tasks) 1 lines in
       let h : Stands f tasks lines s = run_stands f tasks [] (opening tasks) 1 lines (opening_stands f tasks) taken in

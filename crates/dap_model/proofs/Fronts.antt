@@ -6,7 +6,7 @@ use Rattle.std.proofs.lemmas.List.Concat.{flat_map-append}
 use Rattle.std.proofs.lemmas.Bool.{both_ways, or_from, or_left, or_right}
 use Rattle.std.proofs.lemmas.List.Folds.{list_any-append}
 use Rattle.std.specs.List.{list_any}
-use Rattle.dap_model.specs.Segments.{AreWholeSegments, TellsWholeSegments}
+use Rattle.dap_model.specs.Segments.{AreWholeSegments, EndsSegment, TellsWholeSegments}
 use Rattle.vdaf_api.specs.Functions.{Functions}
 use Rattle.vdaf_api.specs.declared.kind.Kind.{Kind}
 use Rattle.dap_tasks.specs.Task.{PlainTask}
@@ -75,7 +75,7 @@ segments_with : (l : Line) (more : List Line) → AreWholeSegments more (whole_s
 segments_with l more h false false e o = record { rest = l ∷ more; front = refl; whole = inl refl; open_end = or_from _ _ e o }
 segments_with l more h ends true e o = with_later h.whole
   where
-    with_later : (whole_segments more ≡ []) ⊎ ((before : List Line) × (last : Line) × (whole_segments more ≡ before ++ last ∷ []) × (ends_segment last ≡ true))
+    with_later : (whole_segments more ≡ []) ⊎ EndsSegment (whole_segments more)
         → AreWholeSegments (l ∷ more) (cond (ends || true) (l ∷ whole_segments more) [])
     with_later (inl none) =
         let all : more ≡ h.rest = h.front ∙ ap (λ (x : List Line). x ++ h.rest) none in
@@ -84,24 +84,25 @@ segments_with l more h ends true e o = with_later h.whole
         let all : AreWholeSegments (l ∷ more) (l ∷ whole_segments more) = record {
           rest = h.rest;
           front = ap (λ (x : List Line). l ∷ x) h.front;
-          whole = inr (l ∷ some.0, some.1, ap (λ (x : List Line). l ∷ x) some.2, some.3);
+          whole = inr (record { before = l ∷ some.before; last = some.last; joined = ap (λ (x : List Line). l ∷ x) some.joined; ends = some.ends });
           open_end = h.open_end;
         } in
         subst (λ b. AreWholeSegments (l ∷ more) (cond b (l ∷ whole_segments more) [])) (sym (or_right ends true refl)) all
 segments_with l more h true false e o = alone h.whole
   where
-    alone : (whole_segments more ≡ []) ⊎ ((before : List Line) × (last : Line) × (whole_segments more ≡ before ++ last ∷ []) × (ends_segment last ≡ true))
+    alone : (whole_segments more ≡ []) ⊎ EndsSegment (whole_segments more)
         → AreWholeSegments (l ∷ more) (l ∷ whole_segments more)
     alone (inl none) = record {
       rest = h.rest;
       front = ap (λ (x : List Line). l ∷ x) h.front;
-      whole = inr ([], l, ap (λ (x : List Line). l ∷ x) none, e);
+      whole = inr (record { before = []; last = l; joined = ap (λ (x : List Line). l ∷ x) none; ends = e });
       open_end = h.open_end;
     }
     alone (inr some) =
-        let last_ends : list_any ends_segment (some.1 ∷ []) ≡ true = or_left (ends_segment some.1) false some.3 in
+        let last_ends : list_any ends_segment (some.last ∷ []) ≡ true = or_left (ends_segment some.last) false some.ends in
         let in_front : list_any ends_segment (whole_segments more) ≡ true =
-        ap (list_any ends_segment) some.2 ∙ list_any-append ends_segment some.0 (some.1 ∷ []) ∙ or_right (list_any ends_segment some.0) (list_any ends_segment (some.1 ∷ [])) last_ends in
+        ap (list_any ends_segment) some.joined ∙ list_any-append ends_segment some.before (some.last ∷ [])
+        ∙ or_right (list_any ends_segment some.before) (list_any ends_segment (some.last ∷ [])) last_ends in
         let in_all : list_any ends_segment more ≡ true =
         ap (list_any ends_segment) h.front ∙ list_any-append ends_segment (whole_segments more) h.rest ∙ or_left (list_any ends_segment (whole_segments more)) (list_any ends_segment h.rest) in_front in
         absurd (both_ways (list_any ends_segment more) o in_all)

@@ -1,6 +1,6 @@
 -- What a report comes to that a line offers.
-use Rattle.std.proofs.Common.{◌≡◌, ◌⊎◌, ℕ, ◌+◌, List, [], ◌∷◌, nat_eq, Bool, cond, true, false, ◌||◌, is_some, Option, Some, None, refl, sym, ap, subst, ◌∙◌, inl, inr, arith}
-use Rattle.std.proofs.lemmas.Bool.{and_from, and_parts, both_ways, eq-eqb, eqb-true, lt-ltb, ltb-true, or_left, or_right}
+use Rattle.std.proofs.Common.{◌≡◌, ◌⊎◌, ℕ, List, [], ◌∷◌, nat_eq, Bool, cond, true, false, ◌||◌, is_some, Option, Some, None, refl, sym, ap, subst, ◌∙◌, inl, inr, arith}
+use Rattle.std.proofs.lemmas.Bool.{and_from, and_parts, both_ways, eq-eqb, eqb-true, or_left, or_right}
 use Rattle.std.proofs.lemmas.List.Elements.{Contains-append_cases, Contains-append_left, Contains-append_right, Contains-push, Contains-push_cases}
 use Rattle.std.proofs.lemmas.Slice.Eq.{bytes_eq-Decides}
 use Rattle.std.specs.List.{Contains, find, list_any}
@@ -14,7 +14,7 @@ use Rattle.dap_tasks.specs.Task.{PlainTask}
 use Rattle.dap_tasks.specs.declared.cause.Cause.TheVariants as cause
 use Rattle.dap_tasks.specs.declared.cause.Judged.TheVariants.{Again, Barred, Added}
 use Rattle.dap_model.specs.Changes.{AreDistinct}
-use Rattle.dap_model.specs.Offers.{IsEarly, IsJudged, IsKnown}
+use Rattle.dap_model.specs.Offers.{IsJudged, IsKnown}
 use Rattle.dap_model.specs.State.{Batch, State, has_key, is_batch, is_collected, known_in}
 use Rattle.dap_model.specs.Step.{Outcome, after_judgement, offered}
 
@@ -124,18 +124,7 @@ module _ (s : State) (distinct : AreDistinct s.accepted) (name id : List ℕ) wh
       go None e = refl
       go (Some accepted) e = same accepted e (bytes_eq accepted bytes) refl
 
--- ---- moments and batches
-
-early_is : (s : State) (time : ℕ) → IsEarly s time → is_early s.moment time ≡ true
-early_is s time h = ap (λ (o : Option ℕ). is_early o time) h.1 ∙ lt-ltb (h.0 + 300) time h.2
-
-early_not : (s : State) (time : ℕ) → (IsEarly s time → ⊥) → is_early s.moment time ≡ false
-early_not s time none = go s.moment refl (is_early s.moment time) refl
-  where
-    go : (o : Option ℕ) → s.moment ≡ o → (b : Bool) → is_early o time ≡ b → is_early s.moment time ≡ false
-    go None e b is = ap (λ (o : Option ℕ). is_early o time) e
-    go (Some m) e true is = absurd (none (m, e, ltb-true (m + 300) time is))
-    go (Some m) e false is = ap (λ (o : Option ℕ). is_early o time) e ∙ is
+-- ---- batches
 
 batch_is : (name : List ℕ) (start : ℕ) (b : Batch) → is_batch name start b ≡ true → b ≡ record { task = name; start = start }
 batch_is name start b h =
@@ -179,12 +168,11 @@ module _ (s : State) (k : ℕ) (t : PlainTask) (r : Report) (distinct : AreDisti
   closed_test = is_collected s.collected r.name start
 
   -- a report that is neither known nor early goes by its batch
-  unbarred : ((bytes : List ℕ) → IsKnown s r.name r.id bytes → ⊥) → (IsEarly s r.time → ⊥) → (b : Bool) → closed_test ≡ b → offered s k t r ≡ after false false false b
+  unbarred : ((bytes : List ℕ) → IsKnown s r.name r.id bytes → ⊥) → is_early s.moment r.time ≡ false → (b : Bool) → closed_test ≡ b → offered s k t r ≡ after false false false b
   unbarred none not_early b is =
       let again : again_test ≡ false = other_bytes s distinct r.name r.id (report.spell r) (none (report.spell r)) in
-      let early : is_early s.moment r.time ≡ false = early_not s r.time not_early in
       let unknown : is_some known ≡ false = ap (λ (o : Option (List ℕ)). is_some o) (unknown_bytes s distinct r.name r.id none) in
-      λ i. after (again i) (early i) (unknown i) (is i)
+      λ i. after (again i) (not_early i) (unknown i) (is i)
 
   pub offered-judged : IsJudged s k t r (offered s k t r)
   offered-judged = record {
@@ -194,13 +182,11 @@ module _ (s : State) (k : ℕ) (t : PlainTask) (r : Report) (distinct : AreDisti
         ap (λ (b : Bool). after b (is_early s.moment r.time) (is_some known) closed_test) is;
     early = λ none h.
         let again : again_test ≡ false = other_bytes s distinct r.name r.id (report.spell r) none in
-        let early : is_early s.moment r.time ≡ true = early_is s r.time h in
-        λ i. after (again i) (early i) (is_some known) closed_test;
+        λ i. after (again i) (h i) (is_some known) closed_test;
     conflict = λ none not_early bytes h.
         let again : again_test ≡ false = other_bytes s distinct r.name r.id (report.spell r) none in
-        let early : is_early s.moment r.time ≡ false = early_not s r.time not_early in
         let is_known : is_some known ≡ true = ap (λ (o : Option (List ℕ)). is_some o) (known_bytes s distinct r.name r.id bytes h) in
-        λ i. after (again i) (early i) (is_known i) closed_test;
+        λ i. after (again i) (not_early i) (is_known i) closed_test;
     collected = λ none not_early h. unbarred none not_early true (closed_is s r.name start h);
     else_accepted = λ none not_early not_closed. unbarred none not_early false (closed_not s r.name start not_closed);
   }

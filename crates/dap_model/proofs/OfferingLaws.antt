@@ -17,9 +17,9 @@ use Rattle.dap_model.proofs.ChangeLaws.{changes_named}
 use Rattle.dap_model.proofs.NameLemmas.{name_in-report}
 use Rattle.dap_model.proofs.UploadLaws.{first_cause, measure-first_cause}
 use Rattle.dap_model.specs.Changes.{AddsBatch}
-use Rattle.dap_model.specs.Limits.{report_offered, reports_offered, task_named}
+use Rattle.dap_model.specs.Limits.{report_offered, reports_offered}
 use Rattle.dap_model.specs.Offering.{Brings, CountsWhatIsJudged}
-use Rattle.dap_model.specs.State.{State}
+use Rattle.dap_model.specs.State.{State, task_named}
 use Rattle.dap_model.specs.Step.{measure_of, name_in, offered, refused, report_in, step, upload_named, upload_to}
 
 module _ (f : Kind → Functions) (s : State) (k : ℕ) where

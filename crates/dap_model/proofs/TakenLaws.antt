@@ -1,6 +1,6 @@
 -- The state after lines whose measurements are taken.
 use Rattle.std.proofs.Common.{◌≡◌, ◌⊎◌, ℕ, ◌+◌, List, [], ◌∷◌, ◌++◌, Bool, false, ◌&&◌, is_some, Option, Some, None, refl, sym, ap, subst, ◌∙◌, inl, inr, arith, ◌≤◌, append-nil, append_assoc}
-use Rattle.std.proofs.lemmas.Bool.{or_from, or_parts, le-ltb}
+use Rattle.std.proofs.lemmas.Bool.{or_from, or_parts, le-ltb, ltb-false}
 use Rattle.std.proofs.lemmas.List.Elements.{All-contains}
 use Rattle.std.proofs.lemmas.List.Folds.{list_any-append}
 use Rattle.std.specs.List.{find, list_any, Contains}
@@ -38,7 +38,7 @@ not_early times None time h timely = refl
 not_early times (Some m) time h (inl none) = absurd (let there : Contains [] m = subst (λ (l : List ℕ). Contains l m) none h.0 in omega (arith, there.1))
 not_early times (Some m) time h (inr (t, c, le)) =
     let below : t ≤ m = All-contains (λ x. x ≤ m) times t h.1 c in
-    le-ltb (m + 300) time (omega (arith, below, le))
+    le-ltb _ time (omega (arith, below, ltb-false _ time le))
 
 judged_added : (known : Option (List ℕ)) (moment : Option ℕ) (closed : Bool) (bytes : List ℕ) (time : ℕ) → known ≡ None → is_early moment time ≡ false → closed ≡ false
     → judged known moment closed bytes time ≡ Added

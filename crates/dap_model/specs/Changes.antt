@@ -4,7 +4,7 @@ use Rattle.std.specs.List.{list_any}
 use Rattle.dap_messages.specs.declared.report.Report.{Report}
 use Rattle.dap_script.specs.declared.line.Line.{Line}
 use Rattle.dap_script.specs.declared.line.Line.TheVariants as line
-use Rattle.dap_model.specs.State.{State, has_key}
+use Rattle.dap_model.specs.State.{State, has_key, with_collected}
 use Rattle.dap_model.specs.Step.{raised, report_in}
 
 -- One report of this task, identifier and time is accepted after the others, and nothing else changes.
@@ -23,7 +23,7 @@ pub record AddsUpload (old new : State) (bytes : List ℕ) : Type 0 where
 
 -- This batch is collected after the others, and nothing else changes.
 abbrev pub AddsBatch : State → State → List ℕ → ℕ → Type 0
-AddsBatch old new task start = new ≡ record old { collected = old.collected ++ record { task = task; start = start } ∷ [] }
+AddsBatch old new task start = new ≡ with_collected old task start
 
 -- A line changes nothing, or what it names.
 abbrev pub ChangesNamed : State → State → Line → Type 0

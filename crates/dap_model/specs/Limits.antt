@@ -1,27 +1,23 @@
 -- The limits of a run: how many reports it is offered, and how many bytes they have.
 use Rattle.std.specs.Prelude.{ℕ, ◌-◌, List, [], ◌∷◌, ◌++◌, length, sum, take, map, Bool, true, false, ◌||◌, nat_lt, if◌then◌else◌, Option, Some, None}
-use Rattle.std.specs.List.{find, list_any}
+use Rattle.std.specs.List.{list_any}
 use Rattle.std.specs.Option.{option_and_then, option_map_or, option_to_list}
 use Rattle.vdaf_api.specs.Functions.{Functions}
 use Rattle.vdaf_api.specs.declared.kind.Kind.{Kind}
 use Rattle.dap_messages.specs.Messages.{report}
 use Rattle.dap_messages.specs.declared.report.Report.{Report}
 use Rattle.dap_seal.specs.Reports.{honest_report}
-use Rattle.dap_tasks.specs.Task.{PlainTask, has_name}
+use Rattle.dap_tasks.specs.Task.{PlainTask}
 use Rattle.dap_script.specs.declared.line.Line.{Line}
 use Rattle.dap_script.specs.declared.line.Line.TheVariants as line
 use Rattle.dap_model.specs.Printed.{text_of}
-use Rattle.dap_model.specs.Run.{printed_from, tasks_of}
-use Rattle.dap_model.specs.State.{opening}
+use Rattle.dap_model.specs.Run.{opening_of, printed_from, tasks_of}
+use Rattle.dap_model.specs.State.{task_named}
 use Rattle.dap_model.specs.Step.{name_in, report_in}
 use Rattle.dap_model.specs.declared.limits.Limits.{Limits}
 
--- the task of a name among these
-abbrev pub task_named : List PlainTask → List ℕ → Option PlainTask
-task_named tasks name = find (has_name name) tasks
-
--- The report that a line offers: that of a measurement of a known task with shares, or that of uploaded bytes which spell one
--- of a known task. It is offered whether or not it is accepted, and again with each repeat.
+-- The report that a line offers: that of a measurement of a known task with shares, or that of uploaded bytes which
+-- spell one of a known task. It is offered whether or not it is accepted, and again with each repeat.
 abbrev pub report_offered : (Kind → Functions) → List PlainTask → Line → Option Report
 report_offered f tasks (line.Measure name id time value seed) =
     option_and_then (λ task. honest_report (f task.kind) task id time value seed) (task_named tasks name)
@@ -59,8 +55,8 @@ abbrev pub passed_after : (Kind → Functions) → Limits → List PlainTask →
 passed_after f limits tasks done [] = None
 passed_after f limits tasks done (l ∷ more) =
     let lines = done ++ l ∷ [] in
-    option_map_or (λ limit. Some (record { line = length lines; limit = limit })) (limit_passed limits (reports_offered f tasks lines))
-    (passed_after f limits tasks lines more)
+    option_map_or (λ limit. Some (record { line = length lines; limit = limit }))
+    (limit_passed limits (reports_offered f tasks lines)) (passed_after f limits tasks lines more)
 
 -- the first line with which a script passes a limit, beside the given tasks
 abbrev pub passed_in : (Kind → Functions) → Limits → List PlainTask → List Line → Option Passed
@@ -86,4 +82,4 @@ whole_segments (l ∷ more) = if ends_segment l || list_any ends_segment more th
 -- what the whole segments before a line print, where lines count from 1
 abbrev pub text_before : (Kind → Functions) → List PlainTask → List Line → ℕ → List ℕ
 text_before f given lines number =
-    text_of (printed_from f (opening (given ++ tasks_of lines)) 1 (whole_segments (take (number - 1) lines)))
+    text_of (printed_from f (opening_of given lines) 1 (whole_segments (take (number - 1) lines)))

@@ -1,6 +1,7 @@
 -- The moment, in the times of the lines.
-use Rattle.std.specs.Prelude.{◌≡◌, ◌⊎◌, ◌+◌, ◌≤◌, ℕ, List, [], ◌∷◌, ◌++◌, Option, Some, None}
+use Rattle.std.specs.Prelude.{◌≡◌, ◌⊎◌, ◌≤◌, ℕ, List, [], ◌∷◌, ◌++◌, false, Option, Some, None}
 use Rattle.std.specs.List.{All, Contains}
+use Rattle.dap_tasks.specs.Judged.{is_early}
 use Rattle.dap_script.specs.declared.line.Line.{Line}
 use Rattle.dap_script.specs.declared.line.Line.TheVariants as line
 
@@ -24,6 +25,6 @@ abbrev pub IsGreatest : List ℕ → Option ℕ → Type 0
 IsGreatest times None = times ≡ []
 IsGreatest times (Some moment) = Contains times moment × All (λ t. t ≤ moment) times
 
--- none of the times was told, or the time is at most 300 above one of them
+-- none of the times was told, or the time isn't early at one of them
 abbrev pub IsTimely : List ℕ → ℕ → Type 0
-IsTimely times time = (times ≡ []) ⊎ ((t : ℕ) × Contains times t × (time ≤ t + 300))
+IsTimely times time = (times ≡ []) ⊎ ((t : ℕ) × Contains times t × (is_early (Some t) time ≡ false))

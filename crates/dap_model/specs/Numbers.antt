@@ -7,8 +7,8 @@ use Rattle.dap_tasks.specs.Task.{PlainTask}
 use Rattle.dap_tasks.specs.declared.cause.Cause.{Cause}
 use Rattle.dap_script.specs.declared.line.Line.{Line}
 use Rattle.dap_model.specs.Printed.{text_of}
-use Rattle.dap_model.specs.Run.{model_text, printed_from, state_after, tasks_of}
-use Rattle.dap_model.specs.State.{State, opening}
+use Rattle.dap_model.specs.Run.{model_text, opening_of, printed_from, state_after}
+use Rattle.dap_model.specs.State.{State}
 use Rattle.dap_model.specs.Step.{Outcome, step}
 use Rattle.dap_model.specs.declared.printed.Printed.{Printed}
 use Rattle.dap_model.specs.declared.printed.Printed.TheVariants.{Refused}
@@ -21,9 +21,18 @@ AreOfLine number printed = (n : ℕ) (why : Cause) → Contains printed (Refused
 abbrev pub in_its_place : (Kind → Functions) → State → List Line → Line → Outcome
 in_its_place f first before l = step f (state_after f first 1 before) (length before + 1) l
 
--- The script prints what the lines before this one print, then what this one prints as the line of its number, then what the
--- lines behind it print.
-pub record PrintsByItsNumber (f : Kind → Functions) (given : List PlainTask) (before : List Line) (l : Line) (behind : List Line) : Type 0 where
-  pub text : (let first = opening (given ++ tasks_of (before ++ l ∷ behind)) in let own = in_its_place f first before l in
-      model_text f given (before ++ l ∷ behind) ≡ text_of (printed_from f first 1 before ++ own.1 ++ printed_from f own.0 (length before + 2) behind))
-  pub numbered : AreOfLine (length before + 1) (in_its_place f (opening (given ++ tasks_of (before ++ l ∷ behind))) before l).1
+-- what these lines print, then what the line behind them prints as the line of its number, then what the lines behind
+-- it print
+abbrev pub printed_around : (Kind → Functions) → State → List Line → Line → List Line → List Printed
+printed_around f first before l behind =
+    let own = in_its_place f first before l in
+    printed_from f first 1 before ++ own.1 ++ printed_from f own.0 (length before + 2) behind
+
+-- The script prints what the lines before this one print, then what this one prints as the line of its number, then
+-- what the lines behind it print.
+pub record PrintsByItsNumber (f : Kind → Functions) (given : List PlainTask)
+    (before : List Line) (l : Line) (behind : List Line) : Type 0 where
+  pub text : (let first = opening_of given (before ++ l ∷ behind) in
+      model_text f given (before ++ l ∷ behind) ≡ text_of (printed_around f first before l behind))
+  pub numbered : (let first = opening_of given (before ++ l ∷ behind) in
+      AreOfLine (length before + 1) (in_its_place f first before l).1)

@@ -25,7 +25,8 @@ abbrev pub offered_by : (Kind → Functions) → List PlainTask → List Line �
 offered_by f given lines n = reports_offered f (given ++ tasks_of lines) (take n lines)
 
 -- The line is the first with which a limit is passed, and the limit is the first of those that are passed with it.
-pub record IsFirstPassed (f : Kind → Functions) (limits : Limits) (given : List PlainTask) (lines : List Line) (p : Passed) : Type 0 where
+pub record IsFirstPassed (f : Kind → Functions) (limits : Limits)
+    (given : List PlainTask) (lines : List Line) (p : Passed) : Type 0 where
   pub in_script : p.line ≤ length lines
   pub before : (n : ℕ) → n < p.line → AreWithin limits (offered_by f given lines n)
   pub passes : Pass limits (offered_by f given lines p.line) p.limit

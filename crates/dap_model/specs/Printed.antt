@@ -40,7 +40,8 @@ abbrev pub line_text : Printed → List ℕ
 line_text (Collected name start what) =
     codes "collected " ++ name ++ codes " " ++ decimal start ++ codes " reports " ++ decimal what.reports
     ++ codes " rejected " ++ decimal what.rejected ++ answer_text what.answer
-line_text (Small name start reports) = codes "small " ++ name ++ codes " " ++ decimal start ++ codes " reports " ++ decimal reports
+line_text (Small name start reports) =
+    codes "small " ++ name ++ codes " " ++ decimal start ++ codes " reports " ++ decimal reports
 line_text (Refused line why) = codes "refused " ++ decimal line ++ codes " " ++ cause_word why
 
 -- a line with its end

@@ -36,6 +36,10 @@ abbrev pub state_after : (Kind → Functions) → State → ℕ → List Line �
 state_after f s k [] = s
 state_after f s k (l ∷ more) = state_after f (step f s k l).0 (k + 1) more
 
--- what a script prints, from the empty state with the given tasks and the script's
+-- the empty state, in which the given tasks and the script's are known
+abbrev pub opening_of : List PlainTask → List Line → State
+opening_of given lines = opening (given ++ tasks_of lines)
+
+-- what a script prints, from its opening state
 abbrev pub model_text : (Kind → Functions) → List PlainTask → List Line → List ℕ
-model_text f given lines = text_of (printed_from f (opening (given ++ tasks_of lines)) 1 lines)
+model_text f given lines = text_of (printed_from f (opening_of given lines) 1 lines)

@@ -7,23 +7,32 @@ use Rattle.dap_tasks.specs.Task.{PlainTask}
 use Rattle.dap_script.specs.declared.line.Line.{Line}
 use Rattle.dap_model.specs.Limits.{ends_segment}
 use Rattle.dap_model.specs.Printed.{text_of}
-use Rattle.dap_model.specs.Run.{model_text, printed_from, state_after, tasks_of}
-use Rattle.dap_model.specs.State.{opening}
+use Rattle.dap_model.specs.Run.{model_text, opening_of, printed_from, state_after}
 
--- The first of the lines are whole segments: there are none, or the last of them ends a segment; and no line behind them does.
+-- the last of the lines ends a segment
+pub record EndsSegment (lines : List Line) : Type 0 where
+  pub before : List Line
+  pub last : Line
+  pub joined : lines ≡ before ++ last ∷ []
+  pub ends : ends_segment last ≡ true
+
+-- The first of the lines are whole segments: there are none, or the last of them ends a segment; and no line behind
+-- them does.
 pub record AreWholeSegments (lines first : List Line) : Type 0 where
   pub rest : List Line
   pub front : lines ≡ first ++ rest
-  pub whole : (first ≡ []) ⊎ ((before : List Line) × (last : Line) × (first ≡ before ++ last ∷ []) × (ends_segment last ≡ true))
+  pub whole : (first ≡ []) ⊎ EndsSegment first
   pub open_end : list_any ends_segment rest ≡ false
 
--- The text is told before the line of this number: the whole segments of the lines before it print it, from the script's opening
--- state. The script prints it first, and then what its other lines print, which follow on these segments.
-pub record TellsWholeSegments (f : Kind → Functions) (given : List PlainTask) (lines : List Line) (number : ℕ) (text : List ℕ) : Type 0 where
+-- The text is told before the line of this number: the whole segments of the lines before it print it, from the
+-- script's opening state. The script prints it first, and then what its other lines print, which follow on these
+-- segments.
+pub record TellsWholeSegments (f : Kind → Functions) (given : List PlainTask)
+    (lines : List Line) (number : ℕ) (text : List ℕ) : Type 0 where
   pub first : List Line
   pub rest : List Line
   pub script : lines ≡ first ++ rest
   pub whole : AreWholeSegments (take (number - 1) lines) first
-  pub told : text ≡ text_of (printed_from f (opening (given ++ tasks_of lines)) 1 first)
-  pub then_others : (let after = state_after f (opening (given ++ tasks_of lines)) 1 first in
+  pub told : text ≡ text_of (printed_from f (opening_of given lines) 1 first)
+  pub then_others : (let after = state_after f (opening_of given lines) 1 first in
       model_text f given lines ≡ text ++ text_of (printed_from f after (length first + 1) rest))

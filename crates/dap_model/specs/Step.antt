@@ -1,6 +1,5 @@
 -- The plain step: what a line changes, and what it prints.
 use Rattle.std.specs.Prelude.{ℕ, ◌%◌, List, [], ◌∷◌, ◌++◌, length, take, Bool, ◌||◌, not, nat_eq, nat_le, max, if◌then◌else◌, Option, Some, None}
-use Rattle.std.specs.List.{find}
 use Rattle.std.specs.Option.{option_map_or}
 use Rattle.std.specs.Result.{result_ok}
 use Rattle.dap_bytes.specs.Name.{name_of}
@@ -13,14 +12,14 @@ use Rattle.dap_messages.specs.Messages.{report}
 use Rattle.dap_messages.specs.declared.report.Report.{Report}
 use Rattle.dap_seal.specs.Reports.{honest_report}
 use Rattle.dap_tasks.specs.Judged.{judged}
-use Rattle.dap_tasks.specs.Task.{PlainTask, has_name}
+use Rattle.dap_tasks.specs.Task.{PlainTask}
 use Rattle.dap_tasks.specs.declared.cause.Cause.{Cause}
 use Rattle.dap_tasks.specs.declared.cause.Cause.TheVariants as cause
 use Rattle.dap_tasks.specs.declared.cause.Judged.{Judged}
 use Rattle.dap_tasks.specs.declared.cause.Judged.TheVariants.{Again, Barred, Added}
 use Rattle.dap_script.specs.declared.line.Line.{Line}
 use Rattle.dap_script.specs.declared.line.Line.TheVariants as line
-use Rattle.dap_model.specs.State.{Batch, State, contents_in, is_collected, known_in, rejected_in}
+use Rattle.dap_model.specs.State.{Batch, State, contents_in, is_collected, known_in, rejected_in, task_named}
 use Rattle.dap_model.specs.declared.printed.Printed.{Printed}
 use Rattle.dap_model.specs.declared.printed.Printed.TheVariants.{Collected, Small, Refused}
 
@@ -40,11 +39,15 @@ after_judgement s k new Again = (s, [])
 after_judgement s k new (Barred why) = refused s k why
 after_judgement s k new Added = (record s { accepted = s.accepted ++ new ∷ [] }, [])
 
+-- what a report of the task comes to
+abbrev pub judgement : State → PlainTask → Report → Judged
+judgement s task new =
+    let collected = is_collected s.collected new.name (batch_start new.time task.precision) in
+    judged (known_in s.accepted new.name new.id) s.moment collected (report.spell new) new.time
+
 -- a report of the task is offered by line k
 abbrev pub offered : State → ℕ → PlainTask → Report → Outcome
-offered s k task new =
-    after_judgement s k new
-    (judged (known_in s.accepted new.name new.id) s.moment (is_collected s.collected new.name (batch_start new.time task.precision)) (report.spell new) new.time)
+offered s k task new = after_judgement s k new (judgement s task new)
 
 -- the honest report of a measurement of the task is offered, if the measurement has shares
 abbrev pub measure_of : (Kind → Functions) → State → ℕ → List ℕ → ℕ → ℕ → List ℕ → PlainTask → Outcome
@@ -66,7 +69,7 @@ upload_to s k bytes task = option_map_or (offered s k task) (report_in bytes) (r
 
 -- bytes that begin with this name are offered to its task
 abbrev pub upload_named : State → ℕ → List ℕ → List ℕ → Outcome
-upload_named s k bytes name = option_map_or (upload_to s k bytes) (find (has_name name) s.tasks) (refused s k cause.Task)
+upload_named s k bytes name = option_map_or (upload_to s k bytes) (task_named s.tasks name) (refused s k cause.Task)
 
 -- bytes are offered, if they begin with a name
 abbrev pub upload_of : State → ℕ → List ℕ → Outcome
@@ -76,7 +79,8 @@ upload_of s k bytes = option_map_or (upload_named s k bytes) (name_in bytes) (re
 
 -- the batch has been collected, or has the reports for it
 abbrev pub is_due : (Kind → Functions) → State → PlainTask → ℕ → Bool
-is_due f s task start = is_collected s.collected task.name start || nat_le task.min (length (contents_in f task start s.accepted))
+is_due f s task start =
+    is_collected s.collected task.name start || nat_le task.min (length (contents_in f task start s.accepted))
 
 -- the printed line of a batch that is due: its counts, and the answer of the sum of its contents
 abbrev pub collection_of : (Kind → Functions) → State → PlainTask → ℕ → Printed
@@ -96,7 +100,8 @@ with_batch collected name start =
 abbrev pub collect_of : (Kind → Functions) → State → ℕ → ℕ → PlainTask → Outcome
 collect_of f s k start task =
     if not (nat_eq (start % task.precision) 0) then refused s k cause.Start
-    else (if is_due f s task start then (record s { collected = with_batch s.collected task.name start }, collection_of f s task start ∷ [])
+    else (if is_due f s task start
+    then (record s { collected = with_batch s.collected task.name start }, collection_of f s task start ∷ [])
     else (s, Small task.name start (length (contents_in f task start s.accepted)) ∷ []))
 
 -- ---- lines
@@ -111,7 +116,8 @@ step f s k line.Blank = (s, [])
 step f s k (line.Task name kind min precision) = (s, [])
 step f s k (line.Now t) = (record s { moment = raised s.moment t }, [])
 step f s k (line.Measure name id time value seed) =
-    option_map_or (measure_of f s k id time value seed) (find (has_name name) s.tasks) (refused s k cause.Task)
+    option_map_or (measure_of f s k id time value seed) (task_named s.tasks name) (refused s k cause.Task)
 step f s k (line.Upload bytes) = upload_of s k bytes
-step f s k (line.Collect name start) = option_map_or (collect_of f s k start) (find (has_name name) s.tasks) (refused s k cause.Task)
+step f s k (line.Collect name start) =
+    option_map_or (collect_of f s k start) (task_named s.tasks name) (refused s k cause.Task)
 step f s k (line.Restart node) = (s, [])

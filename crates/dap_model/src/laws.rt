@@ -1,18 +1,18 @@
 //! Laws of the plain model, in the words of who reads its output.
 
-ghost use Rattle.std.specs.Prelude.{◌≡◌, ◌+◌, ◌%◌, ℕ, List, [], ◌∷◌, ◌++◌, Some, false, take, filter_map};
-ghost use Rattle.std.specs.List.{AllZip, find, list_any};
+ghost use Rattle.std.specs.Prelude.{◌≡◌, ◌%◌, ℕ, List, [], ◌++◌, Some, false, take, filter_map};
+ghost use Rattle.std.specs.List.{AllZip, list_any};
 ghost use Rattle.vdaf_api.specs.Functions.{Functions};
 ghost use Rattle.vdaf_api.specs.declared.answer.Collected.{Collected as Counts};
 ghost use Rattle.vdaf_api.specs.declared.kind.Kind.{Kind};
 ghost use Rattle.dap_messages.specs.Messages.{report};
 ghost use Rattle.dap_messages.specs.declared.report.Report.{Report};
-ghost use Rattle.dap_tasks.specs.Task.{PlainTask, has_name};
+ghost use Rattle.dap_tasks.specs.Task.{PlainTask};
 ghost use Rattle.dap_script.specs.declared.line.Line.{Line as PlainLine};
 ghost use Rattle.dap_script.specs.declared.line.Line.TheVariants.{Collect, Measure, Upload};
 ghost use Rattle.dap_model.specs.Changes.{AreDistinct, ChangesNamed};
-ghost use Rattle.dap_model.specs.Collections.{CollectsByTheFirstCause};
-ghost use Rattle.dap_model.specs.Counts.{AreTaken, collects, counted, is_collection};
+ghost use Rattle.dap_model.specs.Collections.{CollectsByTheFirstCause, IsRepeated};
+ghost use Rattle.dap_model.specs.Counts.{AreTaken, PrintsCounted, collects, is_collection};
 ghost use Rattle.dap_model.specs.Limits.{report_offered, reports_offered, text_before, whole_segments};
 ghost use Rattle.dap_model.specs.Moments.{IsGreatest, times_of};
 ghost use Rattle.dap_model.specs.Numbers.{PrintsByItsNumber};
@@ -22,37 +22,38 @@ ghost use Rattle.dap_model.specs.Offers.{IsJudged};
 ghost use Rattle.dap_model.specs.Passes.{IsExact};
 ghost use Rattle.dap_model.specs.declared.limits.Limits.{Limits as PlainLimits};
 ghost use Rattle.dap_model.specs.Run.{model_text, printed_from, state_after, tasks_of};
-ghost use Rattle.dap_model.specs.State.{State, opening};
+ghost use Rattle.dap_model.specs.State.{State, opening, task_named};
 ghost use Rattle.dap_model.specs.Step.{offered, step};
-ghost use Rattle.dap_model.specs.declared.printed.Printed.TheVariants.{Collected};
 ghost use Rattle.dap_model.specs.Uploaded.{IsOrUploads};
 ghost use Rattle.dap_model.specs.Uploads.{GoesByTheFirstCause, IsHonest, MeasuresByTheFirstCause};
 
 use vdaf_api::Vdaf;
 
-/// A law: where each measurement of the lines is a fair one of a known task that isn't early, under an identifier and in a
-/// batch that no line before it takes, a first collection of a batch prints one line. Its reports are the measurements that
-/// fall in the batch, none is rejected, and its answer is that of the sum of their vectors.
+/// A law: where each measurement of the lines is a fair one of a known task that isn't early, under an identifier and
+/// in a batch that no line before it takes, a first collection of a batch prints one line. Its reports are the
+/// measurements that fall in the batch, none is rejected, and its answer is that of the sum of their vectors.
 pub fn batches_are_counted<V: Vdaf>(_: &V)
     ensures { (tasks : List PlainTask) (task : PlainTask) (start number : ℕ) (lines : List PlainLine)
-        → find (has_name task.name) tasks ≡ Some task → start % task.precision ≡ 0
+        → task_named tasks task.name ≡ Some task → start % task.precision ≡ 0
         → AreTaken V.of_kind tasks [] lines → list_any (collects task.name start) lines ≡ false
-        → (step V.of_kind (state_after V.of_kind (opening tasks) 1 lines) number (Collect task.name start)).1 ≡ counted V.of_kind task start lines ∷ [] }
+        → PrintsCounted V.of_kind tasks task start number lines }
 {}
 
 /// A law: such lines print nothing, if none of them is a collection.
 pub fn measurements_print_nothing()
     ensures { (f : Kind → Functions) (tasks : List PlainTask) (lines : List PlainLine)
-        → AreTaken f tasks [] lines → list_any is_collection lines ≡ false → printed_from f (opening tasks) 1 lines ≡ [] }
+        → AreTaken f tasks [] lines → list_any is_collection lines ≡ false
+        → printed_from f (opening tasks) 1 lines ≡ [] }
 {}
 
 /// A law: a line changes nothing but what it names.
 pub fn lines_change_what_they_name()
-    ensures { (f : Kind → Functions) (state : State) (number : ℕ) (line : PlainLine) → ChangesNamed state (step f state number line).0 line }
+    ensures { (f : Kind → Functions) (state : State) (number : ℕ) (line : PlainLine)
+        → ChangesNamed state (step f state number line).0 line }
 {}
 
-/// A law: no two accepted reports have the same task and identifier, so that no report is counted twice. Each line keeps
-/// this, so it holds after all lines.
+/// A law: no two accepted reports have the same task and identifier, so that no report is counted twice. Each line
+/// keeps this, so it holds after all lines.
 pub fn reports_are_accepted_once()
     ensures line { (f : Kind → Functions) (state : State) (number : ℕ) (line : PlainLine)
         → AreDistinct state.accepted → AreDistinct (step f state number line).0.accepted }
@@ -64,41 +65,45 @@ pub fn reports_are_accepted_once()
 pub fn honest_uploads_are_measurements<V: Vdaf>(_: &V)
     ensures { (state : State) (number : ℕ) (name id : List ℕ) (time value : ℕ) (seed : List ℕ) (r : Report)
         → IsHonest V.of_kind state.tasks name id time value seed r
-        → step V.of_kind state number (Upload (report.spell r)) ≡ step V.of_kind state number (Measure name id time value seed) }
+        → step V.of_kind state number (Upload (report.spell r))
+        ≡ step V.of_kind state number (Measure name id time value seed) }
 {}
 
-/// A law: a script in which some measurements of known tasks are replaced by uploads of their honest reports prints the same.
+/// A law: a script in which some measurements of known tasks are replaced by uploads of their honest reports prints the
+/// same.
 pub fn uploaded_scripts_print_the_same<V: Vdaf>(_: &V)
     ensures { (given : List PlainTask) (lines others : List PlainLine)
         → AllZip (IsOrUploads V.of_kind (given ++ tasks_of lines)) lines others
         → model_text V.of_kind given others ≡ model_text V.of_kind given lines }
 {}
 
-/// A law: a measurement is refused `task` where its name is no known task's, else `value` where sharding has no value; else
-/// its honest report is offered to the task.
+/// A law: a measurement is refused `task` where its name is no known task's, else `value` where sharding has no value;
+/// else its honest report is offered to the task.
 pub fn measurements_go_by_the_first_cause()
     ensures { (f : Kind → Functions) (state : State) (number : ℕ) (name id : List ℕ) (time value : ℕ) (seed : List ℕ)
-        → MeasuresByTheFirstCause f state number name id time value seed (step f state number (Measure name id time value seed)) }
+        → let after = step f state number (Measure name id time value seed) in
+        MeasuresByTheFirstCause f state number name id time value seed after }
 {}
 
 /// A law: an upload is refused `task` exactly where the bytes begin with a whole name field that names no known task,
-/// else `form` exactly where they are no report; else the report, which begins with the name of a known task, is judged.
+/// else `form` exactly where they are no report; else the report, which begins with the name of a known task, is
+/// judged.
 pub fn uploads_go_by_the_first_cause()
     ensures { (f : Kind → Functions) (state : State) (number : ℕ) (bytes : List ℕ)
         → GoesByTheFirstCause state number bytes (step f state number (Upload bytes)) }
 {}
 
-/// A law: a report that is offered to its task goes by the first that applies. It is known already, and nothing is printed;
-/// it is early; its identifier is known with other bytes; its batch was collected; else it is accepted.
+/// A law: a report that is offered to its task goes by the first that applies. It is known already, and nothing is
+/// printed; it is early; its identifier is known with other bytes; its batch was collected; else it is accepted.
 pub fn offered_reports_are_judged()
     ensures { (state : State) (number : ℕ) (task : PlainTask) (r : Report)
         → AreDistinct state.accepted → IsJudged state number task r (offered state number task r) }
 {}
 
-/// A law: a collection is refused `task` where its name is no known task's, else `start` where the start is no multiple of the
-/// precision. Else the batch is collected where it was before, or where enough of its accepted reports have a content: each of
-/// its reports is counted once, as a report or as rejected, and the batch takes no more reports. Else how many have a content
-/// is told, and the batch stays open.
+/// A law: a collection is refused `task` where its name is no known task's, else `start` where the start is no multiple
+/// of the precision. Else the batch is collected where it was before, or where enough of its accepted reports have a
+/// content: each of its reports is counted once, as a report or as rejected, and the batch takes no more reports. Else
+/// how many have a content is told, and the batch stays open.
 pub fn collections_go_by_the_first_cause()
     ensures { (f : Kind → Functions) (state : State) (number : ℕ) (name : List ℕ) (start : ℕ)
         → CollectsByTheFirstCause f state number name start (step f state number (Collect name start)) }
@@ -106,10 +111,8 @@ pub fn collections_go_by_the_first_cause()
 
 /// A law: once a batch was collected, each later collection of it prints the same line, whatever the lines between do.
 pub fn collections_are_repeated()
-    ensures { (f : Kind → Functions) (state : State) (number later : ℕ) (name : List ℕ) (start : ℕ) (what : Counts) (lines : List PlainLine)
-        → (step f state number (Collect name start)).1 ≡ Collected name start what ∷ []
-        → (step f (state_after f (step f state number (Collect name start)).0 (number + 1) lines) later (Collect name start)).1
-        ≡ Collected name start what ∷ [] }
+    ensures { (f : Kind → Functions) (state : State) (number later : ℕ) (name : List ℕ) (start : ℕ) (what : Counts)
+        (lines : List PlainLine) → IsRepeated f state number later name start what lines }
 {}
 
 /// A law: the moment is the greatest of the times that the lines so far told, and there is none before the first.
@@ -118,29 +121,32 @@ pub fn moments_are_the_greatest()
         → IsGreatest (times_of lines) (state_after f (opening tasks) 1 lines).moment }
 {}
 
-/// A law: a limit is passed exactly where the reports of the whole script are more or longer than it. The line that is told
-/// is the first with which one is passed, and limit 2 is told where both are passed with it.
+/// A law: a limit is passed exactly where the reports of the whole script are more or longer than it. The line that is
+/// told is the first with which one is passed, and limit 2 is told where both are passed with it.
 pub fn passed_limits_are_exact()
-    ensures { (f : Kind → Functions) (limits : PlainLimits) (given : List PlainTask) (lines : List PlainLine) → IsExact f limits given lines }
+    ensures { (f : Kind → Functions) (limits : PlainLimits) (given : List PlainTask) (lines : List PlainLine)
+        → IsExact f limits given lines }
 {}
 
-/// A law: a line's report counts for the limits exactly where it is judged: that of a measurement of a known task with shares,
-/// and that of uploaded bytes which spell one of a known task, also where it is barred or known already. Reports count in the
-/// order of their lines.
+/// A law: a line's report counts for the limits exactly where it is judged: that of a measurement of a known task with
+/// shares, and that of uploaded bytes which spell one of a known task, also where it is barred or known already.
+/// Reports count in the order of their lines.
 pub fn lines_offer_what_is_judged()
-    ensures line { (f : Kind → Functions) (state : State) (number : ℕ) (line : PlainLine) → CountsWhatIsJudged f state number line }
+    ensures line { (f : Kind → Functions) (state : State) (number : ℕ) (line : PlainLine)
+        → CountsWhatIsJudged f state number line }
     ensures lines { (f : Kind → Functions) (tasks : List PlainTask) (lines : List PlainLine)
         → reports_offered f tasks lines ≡ filter_map (report_offered f tasks) lines }
 {}
 
-/// A law: each line of a script prints between what the lines before and behind it print, as the line of its number counted
-/// from 1, and a refusal names that number.
+/// A law: each line of a script prints between what the lines before and behind it print, as the line of its number
+/// counted from 1, and a refusal names that number.
 pub fn lines_print_by_their_number()
-    ensures { (f : Kind → Functions) (given : List PlainTask) (before : List PlainLine) (line : PlainLine) (behind : List PlainLine)
-        → PrintsByItsNumber f given before line behind }
+    ensures { (f : Kind → Functions) (given : List PlainTask) (before : List PlainLine) (line : PlainLine)
+        (behind : List PlainLine) → PrintsByItsNumber f given before line behind }
 {}
 
-/// A law: what is told before a line is what the segments print that ended before it. Not a line more is told, and none less.
+/// A law: what is told before a line is what the segments print that ended before it. Not a line more is told, and none
+/// less.
 pub fn whole_segments_are_told()
     ensures { (f : Kind → Functions) (given : List PlainTask) (lines : List PlainLine) (number : ℕ)
         → TellsWholeSegments f given lines number (text_before f given lines number) }
