@@ -2,6 +2,8 @@ pub mod ChangeLaws
 pub mod CollectLaws
 pub mod CountLaws
 pub mod Fronts
+pub mod GrowthLaws
+pub mod HonestLaws
 pub mod MomentLaws
 pub mod NameLemmas
 pub mod NumberLaws

@@ -1,6 +1,8 @@
 pub mod Changes
 pub mod Collections
 pub mod Counts
+pub mod Growth
+pub mod Honest
 pub mod Limits
 pub mod Moments
 pub mod Numbers

@@ -1,8 +1,9 @@
 //! Laws of the plain model, in the words of who reads its output.
 
-ghost use Rattle.std.specs.Prelude.{◌≡◌, ◌%◌, ℕ, List, [], ◌++◌, Some, false, take, filter_map};
+ghost use Rattle.std.specs.Prelude.{◌≡◌, ◌⊎◌, ◌≤◌, ◌%◌, ℕ, List, [], ◌∷◌, ◌++◌, length, Some, false, take, filter_map};
 ghost use Rattle.std.specs.List.{AllZip, list_any};
 ghost use Rattle.vdaf_api.specs.Functions.{Functions};
+ghost use Rattle.vdaf_api.specs.Kind.{IsKind};
 ghost use Rattle.vdaf_api.specs.declared.answer.Collected.{Collected as Counts};
 ghost use Rattle.vdaf_api.specs.declared.kind.Kind.{Kind};
 ghost use Rattle.dap_messages.specs.Messages.{report};
@@ -11,8 +12,10 @@ ghost use Rattle.dap_tasks.specs.Task.{PlainTask};
 ghost use Rattle.dap_script.specs.declared.line.Line.{Line as PlainLine};
 ghost use Rattle.dap_script.specs.declared.line.Line.TheVariants.{Collect, Measure, Upload};
 ghost use Rattle.dap_model.specs.Changes.{AreDistinct, ChangesNamed};
-ghost use Rattle.dap_model.specs.Collections.{CollectsByTheFirstCause, IsRepeated};
+ghost use Rattle.dap_model.specs.Collections.{CollectsByTheFirstCause, IsRepeated, WasCollected, batch_reports};
 ghost use Rattle.dap_model.specs.Counts.{AreTaken, PrintsCounted, collects, is_collection};
+ghost use Rattle.dap_model.specs.Growth.{GrowsTo};
+ghost use Rattle.dap_model.specs.Honest.{CarryEach, honest_line};
 ghost use Rattle.dap_model.specs.Limits.{report_offered, reports_offered, text_before, whole_segments};
 ghost use Rattle.dap_model.specs.Moments.{IsGreatest, times_of};
 ghost use Rattle.dap_model.specs.Numbers.{PrintsByItsNumber};
@@ -161,4 +164,26 @@ pub fn segments_are_a_front()
 /// A law: whole segments are a front of the lines. They end with the last line that ends a segment.
 pub fn segments_are_whole()
     ensures { (lines : List PlainLine) → AreWholeSegments lines (whole_segments lines) }
+{}
+
+/// A law: over any lines the same tasks stay known, the moment doesn't fall, and the accepted reports and the collected
+/// batches only grow. So the state after a front of the lines is contained in the one after all.
+pub fn states_only_grow()
+    ensures lines { (f : Kind → Functions) (state : State) (number : ℕ) (lines : List PlainLine)
+        → GrowsTo state (state_after f state number lines) }
+    ensures front { (f : Kind → Functions) (state : State) (number : ℕ) (first rest : List PlainLine)
+        → GrowsTo (state_after f state number first) (state_after f state number (first ++ rest)) }
+{}
+
+/// A law: in any state, where each accepted report of a batch is honest and fair, a collection that is due prints as
+/// many reports as these carry measurements, none rejected, and the answer of the sum of the measurements' vectors.
+/// Where the reports came from, and what other batches hold, plays no part.
+pub fn honest_batches_are_counted<V: Vdaf>(_: &V)
+    ensures { (state : State) (number : ℕ) (name : List ℕ) (start : ℕ) (task : PlainTask) (measurements : List ℕ)
+        → IsKind task.kind → length task.verify ≡ 16
+        → CarryEach V.of_kind task measurements (batch_reports state task start)
+        → task_named state.tasks name ≡ Some task → start % task.precision ≡ 0
+        → WasCollected state name start ⊎ (task.min ≤ length measurements)
+        → (step V.of_kind state number (Collect name start)).1
+        ≡ honest_line V.of_kind task name start measurements ∷ [] }
 {}

@@ -10,11 +10,12 @@ mod printing;
 
 pub use laws::{
     batches_are_counted, collections_are_repeated, collections_go_by_the_first_cause,
-    honest_uploads_are_measurements, lines_change_what_they_name, lines_offer_what_is_judged,
-    lines_print_by_their_number, measurements_go_by_the_first_cause, measurements_print_nothing,
-    moments_are_the_greatest, offered_reports_are_judged, passed_limits_are_exact,
-    reports_are_accepted_once, segments_are_a_front, segments_are_whole,
-    uploaded_scripts_print_the_same, uploads_go_by_the_first_cause, whole_segments_are_told,
+    honest_batches_are_counted, honest_uploads_are_measurements, lines_change_what_they_name,
+    lines_offer_what_is_judged, lines_print_by_their_number, measurements_go_by_the_first_cause,
+    measurements_print_nothing, moments_are_the_greatest, offered_reports_are_judged,
+    passed_limits_are_exact, reports_are_accepted_once, segments_are_a_front, segments_are_whole,
+    states_only_grow, uploaded_scripts_print_the_same, uploads_go_by_the_first_cause,
+    whole_segments_are_told,
 };
 pub use limits::Limits;
 pub use printed::Printed;
