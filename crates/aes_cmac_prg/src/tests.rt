@@ -70,3 +70,25 @@ fn reads_the_stream_in_any_pieces(rt: HostRuntime) {
         assert_eq!(rt; one[0], whole[i]);
     }
 }
+
+// The counter goes past one byte: blocks 255, 256 and 257 of the same stream.
+#[test]
+fn counts_blocks_past_255(rt: HostRuntime) {
+    let seed = 0x000102030405060708090a0b0c0d0e0f_u128.to_be_bytes();
+    let mut stream = Prg::new(&seed, b"dap prio3");
+    let mut before = [0; 4080];
+    stream.next_bytes(&mut before);
+    let mut blocks = [0; 48];
+    stream.next_bytes(&mut blocks);
+    let wanted: [u128; 3] = [
+        0x240db7fdedd09e3dc8682320bb7c136b,
+        0x35257ae5d8e075658c4d129eb8c23bcf,
+        0x2336a70047d2bbbb28d73b7cbdd62ba7,
+    ];
+    for i in 0..3 {
+        assert_eq!(rt;
+            &blocks[16 * i..16 * i + 16],
+            wanted[i].to_be_bytes().as_slice()
+        );
+    }
+}
