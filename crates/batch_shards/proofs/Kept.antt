@@ -17,7 +17,7 @@ use Rattle.batch_shards.specs.declared.bucket.BucketFault.TheVariants.{Closed, N
 use Rattle.field_laws.specs.Vector.{add_each}
 use Rattle.vdaf_api.specs.declared.space.Space.{Space}
 use Rattle.vdaf_api.specs.Vectors.{SpaceLaws, IsOut}
-use Rattle.vdaf_api.specs.Sums.{vector-plus}
+use Rattle.vdaf_api.specs.SumLaws.{vector-plus}
 use Rattle.batch_shards.specs.Bucket.{nothing, closed_for_good, sum_with, IsSum, Opens}
 use Rattle.batch_shards.specs.Batches.{Batch, Kept, batch_order, bucket_of, changed}
 

@@ -9,7 +9,7 @@ use Rattle.dap_batch.specs.ChecksumLaws.{checksum_of-push, checksum_of-middle}
 use Rattle.vdaf_api.specs.declared.space.Space.{Space}
 use Rattle.vdaf_api.specs.Vectors.{SpaceLaws, IsOut, plus, zero_share}
 use Rattle.vdaf_api.specs.Totals.{total}
-use Rattle.vdaf_api.specs.Sums.{plus_comm, plus_assoc, plus-zero}
+use Rattle.vdaf_api.specs.SumLaws.{plus_comm, plus_assoc, plus-zero}
 use Rattle.batch_shards.specs.Bucket.{most, one_more, sum_with, sum_or_zero, with_report}
 use Rattle.batch_shards.specs.Reports.{Report, ids, outs, sum_of, tally}
 

@@ -10,8 +10,8 @@ use Rattle.std.specs.Str.{bytes_eq}
 use Rattle.field_laws.specs.Vector.{add_each, sum_of}
 use Rattle.vdaf_api.proofs.Totals.{plus-swap, totals_are}
 use Rattle.vdaf_api.specs.Functions.{Functions}
-use Rattle.vdaf_api.specs.Spelled.{vector_of-back}
-use Rattle.vdaf_api.specs.Sums.{add_each-assoc, add_each-comm, length-zeros, vector-plus, vector-zero}
+use Rattle.vdaf_api.specs.VectorLaws.{vector_of-back}
+use Rattle.vdaf_api.specs.SumLaws.{add_each-assoc, add_each-comm, length-zeros, vector-plus, vector-zero}
 use Rattle.vdaf_api.specs.Totals.{total_numbers}
 use Rattle.vdaf_api.specs.Vectors.{IsOut, SpaceLaws, numbers, numbers_in, plus, vector, zero_share}
 use Rattle.vdaf_api.specs.declared.space.Space.{Space}

@@ -1,6 +1,6 @@
 //! Both halves of a report, opened and prepared together.
 
-ghost use Rattle.std.specs.Prelude.{◌≡◌, ◌⊎◌, None, Ok, IfOk, OnOk};
+ghost use Rattle.std.specs.Prelude.{◌≡◌, ◌⊎◌, None, Ok, IfOk, OnOk, true};
 ghost use Rattle.vdaf_api.specs.Answered.{Prepares as Gives};
 ghost use Rattle.vdaf_api.specs.declared.fault.PrepFault.TheVariants as prep;
 ghost use Rattle.dap_seal.specs.Reports.{content_numbers_of, head_of, verdict_of};
@@ -52,7 +52,7 @@ fn open(
     head: &Head,
     sealed: &[u8],
 ) -> Result<Vec<u8>, PrepFault>
-    ensures { Gives result (opened_by keys.now role head.now sealed.now) }
+    ensures { Gives result true (opened_by keys.now role head.now sealed.now) }
 {
     match CmacSeal::new(keys, role).open(alloc, head, sealed) {
         Ok(plain) => Ok(plain),

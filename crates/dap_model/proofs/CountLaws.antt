@@ -12,7 +12,7 @@ use Rattle.dap_seal.specs.Reports.{report_of}
 use Rattle.dap_seal.proofs.Honest.{honest-counted}
 use Rattle.dap_batch.specs.Group.{batch_start}
 use Rattle.vdaf_api.specs.Kind.{IsKind}
-use Rattle.vdaf_api.specs.Laws.{FunctionLaws}
+use Rattle.vdaf_api.specs.Promises.{FunctionLaws}
 use Rattle.vdaf_api.specs.Totals.{total_numbers}
 use Rattle.vdaf_api.specs.declared.kind.Kind.{Kind}
 use Rattle.dap_tasks.specs.Task.{PlainTask, has_name}

@@ -6,7 +6,7 @@ use Rattle.std.specs.Result.{result_ok}
 use Rattle.dap_bytes.specs.Name.{IsName}
 use Rattle.vdaf_api.specs.Functions.{Functions, Parts}
 use Rattle.vdaf_api.specs.Kind.{IsKind}
-use Rattle.vdaf_api.specs.Laws.{FunctionLaws}
+use Rattle.vdaf_api.specs.Promises.{FunctionLaws}
 use Rattle.vdaf_api.specs.declared.kind.Kind.{Kind}
 use Rattle.dap_messages.specs.Grammar.{whole}
 use Rattle.dap_messages.specs.Laws.{whole_again}

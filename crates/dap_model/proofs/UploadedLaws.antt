@@ -3,7 +3,7 @@ use Rattle.std.proofs.Common.{◌≡◌, ℕ, ◌+◌, List, [], ◌∷◌, ◌+
 use Rattle.std.specs.List.{AllZip}
 use Rattle.vdaf_api.specs.Functions.{Functions}
 use Rattle.vdaf_api.specs.Kind.{IsKind}
-use Rattle.vdaf_api.specs.Laws.{FunctionLaws}
+use Rattle.vdaf_api.specs.Promises.{FunctionLaws}
 use Rattle.vdaf_api.specs.declared.kind.Kind.{Kind}
 use Rattle.dap_tasks.specs.Task.{PlainTask}
 use Rattle.dap_script.specs.declared.line.Line.{Line}

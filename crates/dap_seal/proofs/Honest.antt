@@ -10,7 +10,7 @@ use Rattle.dap_messages.specs.Messages.{report}
 use Rattle.dap_tasks.specs.Task.{PlainTask}
 use Rattle.vdaf_api.specs.declared.role.Role.TheVariants.{Leader, Helper}
 use Rattle.vdaf_api.specs.Functions.{Functions, Parts}
-use Rattle.vdaf_api.specs.Laws.{FunctionLaws, PartsAreShort}
+use Rattle.vdaf_api.specs.Promises.{FunctionLaws, PartsAreShort}
 use Rattle.vdaf_api.specs.Verdict.{Opened, opened, helper_share, helper_step, verdict, numbers_of}
 use Rattle.dap_seal.specs.Sealed.{opened_by}
 use Rattle.dap_seal.specs.Undone.{length-sealed_by, opened_by-sealed_by}

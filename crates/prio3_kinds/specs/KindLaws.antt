@@ -11,8 +11,9 @@ use Rattle.flp_proof.specs.Proof.{wire_log}
 use Rattle.flp_proof.proofs.Orders.{wire_log_fits}
 use Rattle.vdaf_api.specs.declared.kind.Kind.{Kind}
 use Rattle.vdaf_api.specs.declared.kind.Kind.TheVariants.{Count, Sum, Histogram}
+use Rattle.vdaf_api.specs.declared.shares.TheConstants.{MOST_LEADER}
 use Rattle.vdaf_api.specs.Kind.{IsKind}
-use Rattle.vdaf_api.specs.Laws.{FunctionLaws}
+use Rattle.vdaf_api.specs.Promises.{FunctionLaws}
 use Rattle.prio3_share.specs.Base.{BaseLaws}
 use Rattle.prio3_prep.proofs.Measures.{prio_laws}
 use Rattle.prio3_kinds.specs.Kinds.{base64, base128, answer_of, functions_of_kind}
@@ -33,7 +34,7 @@ base128_laws = record {
 }
 
 -- few calls have a short proof
-short : (inputs calls arity width : ℕ) → inputs ≤ 64 → calls ≤ 64 → arity ≤ 2 → width ≤ 16 → inputs * width + (arity + (2 * (2 ^ wire_log calls - 1) + 1)) * width + 16 ≤ 131056
+short : (inputs calls arity width : ℕ) → inputs ≤ 64 → calls ≤ 64 → arity ≤ 2 → width ≤ 16 → inputs * width + (arity + (2 * (2 ^ wire_log calls - 1) + 1)) * width + 16 ≤ MOST_LEADER
 short inputs calls arity width hi hc ha hw =
     let few : wire_log calls ≤ 11 = (wire_log_fits calls (omega arith)).1 in
     let power : 2 ^ wire_log calls ≤ 2 ^ 11 = pow-le-pow_right {n = 2} (lit≤ tt) few in

@@ -1,3 +1,5 @@
 pub mod Kinds
 pub mod KindLaws
 pub mod Values
+pub mod ValueLaws
+pub mod Counted

@@ -7,7 +7,10 @@ mod laws;
 mod measuring;
 mod prio3;
 
-pub use laws::{honest_reports_count_themselves, measurements_have_their_vectors};
+pub use laws::{
+    accepted_reports_are_decided, answers_are_their_vectors, honest_reports_count_themselves,
+    measurements_have_their_vectors,
+};
 pub use prio3::Prio3;
 
 #[cfg(test)]

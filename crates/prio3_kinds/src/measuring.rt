@@ -4,7 +4,8 @@ ghost use Rattle.prio3_share.specs.Functions.{space_of};
 ghost use Rattle.prio3_prep.specs.States.{state_finish};
 ghost use Rattle.prio3_kinds.specs.Kinds.{functions_of_kind};
 ghost use Rattle.prio3_kinds.specs.KindLaws.{kind_laws};
-ghost use Rattle.prio3_kinds.specs.Values.{functions_of_value, value_laws};
+ghost use Rattle.prio3_kinds.specs.ValueLaws.{value_laws};
+ghost use Rattle.prio3_kinds.specs.Values.{functions_of_value};
 
 use crate::prio3::Prio3;
 use dap_bytes::Id;

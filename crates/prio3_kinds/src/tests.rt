@@ -26,14 +26,14 @@ fn tag(bytes: &[u8]) -> u128 {
     u128::from_be_bytes(cmac(&Key::new([0; 16]), bytes))
 }
 
-/// The answer of one report, by the trait's calls alone. `tags` are those of the public share, both input shares, both
-/// prep shares, the prep message and both out shares, the leader's first.
+/// The answer of one report, by the trait's calls alone, where its parts have these tags: those of the public share,
+/// both input shares, both prep shares, the prep message and both out shares, the leader's first. Without tags any do.
 fn answered<V: Vdaf>(
     rt: &impl Abort,
     alloc: Global,
     v: &V,
     m: u64,
-    tags: &[u128; 8],
+    tags: Option<[u128; 8]>,
 ) -> Result<Answer, Fail> {
     let shares = v.shard(alloc, &ONE, m, &ONE).expect(rt, "shares");
     let public = shares.public.as_slice();
@@ -76,7 +76,9 @@ fn answered<V: Vdaf>(
         tag(&out),
         tag(&other),
     ];
-    assert_eq!(rt; seen.as_slice(), tags.as_slice(), "measurement {m}");
+    if let Some(tags) = tags {
+        assert_eq!(rt; seen, tags, "measurement {m}");
+    }
     counted(rt, alloc, v, &out, &other)
 }
 
@@ -142,7 +144,7 @@ fn each_step_of_a_count_is_the_references(rt: HostRuntime) -> Result<(), Fail> {
         0x5c04157f165a9801f8522b603dd633a5,
         0x006744762b09b78f1579add216a5a3e5,
     ];
-    let answer = answered(&rt, alloc, &count, 1, &tags)?;
+    let answer = answered(&rt, alloc, &count, 1, Some(tags))?;
     assert!(rt; answer == Answer::Count(1));
     assert!(rt; matches!(count.shard(alloc, &ONE, 2, &ONE), Err(ShardFault::BadValue)));
     let shares = count.shard(alloc, &ONE, 1, &ONE).expect(&rt, "shares");
@@ -179,7 +181,7 @@ fn each_step_of_a_sum_is_the_references(rt: HostRuntime) -> Result<(), Fail> {
     ];
     for (bits, m, tags) in [(8, 200, small), (64, u64::MAX, large)] {
         let sum = function(&rt, alloc, Kind::Sum { bits })?;
-        let answer = answered(&rt, alloc, &sum, m, &tags)?;
+        let answer = answered(&rt, alloc, &sum, m, Some(tags))?;
         assert!(rt; answer == Answer::Sum(u128::from(m)));
     }
     let sum = function(&rt, alloc, Kind::Sum { bits: 8 })?;
@@ -217,8 +219,76 @@ fn each_step_of_a_histogram_is_the_references(rt: HostRuntime) -> Result<(), Fai
             wanted.push(u128::from(i == place))?;
         }
         let histogram = function(&rt, alloc, Kind::Histogram { bounds })?;
-        let answer = answered(&rt, alloc, &histogram, m, &tags)?;
+        let answer = answered(&rt, alloc, &histogram, m, Some(tags))?;
         assert!(rt; answer == Answer::Histogram(Numbers::new(wanted)));
+    }
+    Ok(())
+}
+
+// Answers are whole numbers: a count past one byte, a sum past 64 bits, and each bucket's.
+#[test]
+fn answers_are_not_cut(rt: HostRuntime) -> Result<(), Fail> {
+    let alloc = rt.alloc();
+    let count = function(&rt, alloc, Kind::Count)?;
+    let (some, one) = (255_u64.to_le_bytes(), 1_u64.to_le_bytes());
+    let answer = answer_of(&rt, alloc, &count, &some, &one)?;
+    assert!(rt; answer == Answer::Count(256));
+    let most = u128::from(u64::MAX).to_le_bytes();
+    for bits in [1, 63, 64] {
+        let sum = function(&rt, alloc, Kind::Sum { bits })?;
+        let answer = answer_of(&rt, alloc, &sum, &most, &most)?;
+        assert!(rt;
+            answer == Answer::Sum(36_893_488_147_419_103_230),
+            "{bits} bits"
+        );
+    }
+    Ok(())
+}
+
+// Sums of each number of bits take the largest number of them and no larger one.
+#[test]
+fn each_number_of_bits_has_its_measurements(rt: HostRuntime) -> Result<(), Fail> {
+    let alloc = rt.alloc();
+    for less in 0..64_u32 {
+        let sum = function(
+            &rt,
+            alloc,
+            Kind::Sum {
+                bits: (64 - less) as u8,
+            },
+        )?;
+        let most = u64::MAX >> less;
+        assert!(rt; sum.shard(alloc, &ONE, most, &ONE).is_ok(), "{most}");
+        if let Some(more) = most.checked_add(1) {
+            let refused = sum.shard(alloc, &ONE, more, &ONE);
+            assert!(rt; matches!(refused, Err(ShardFault::BadValue)), "{more}");
+        }
+    }
+    Ok(())
+}
+
+// A number falls into the first bucket whose bound it isn't above, or into the last.
+#[test]
+fn each_bucket_has_its_numbers(rt: HostRuntime) -> Result<(), Fail> {
+    let alloc = rt.alloc();
+    for (m, place) in [
+        (0, 0),
+        (10, 0),
+        (11, 1),
+        (20, 1),
+        (21, 2),
+        (30, 2),
+        (31, 3),
+        (u64::MAX, 3),
+    ] {
+        let bounds = Bounds::new([10, 20, 30].to_vec(alloc)?);
+        let histogram = function(&rt, alloc, Kind::Histogram { bounds })?;
+        let answer = answered(&rt, alloc, &histogram, m, None)?;
+        let mut wanted = Vec::new(alloc);
+        for i in 0..4 {
+            wanted.push(u128::from(i == place))?;
+        }
+        assert!(rt; answer == Answer::Histogram(Numbers::new(wanted)), "{m}");
     }
     Ok(())
 }
@@ -316,7 +386,7 @@ fn the_toy_function_is_called_by_the_same_code(rt: HostRuntime) -> Result<(), Fa
         0x49920a3d19cb8c62032b34bce702735f,
     );
     let tags = [empty, five, zero, empty, empty, empty, five, zero];
-    let answer = answered(&rt, alloc, &toy, 5, &tags)?;
+    let answer = answered(&rt, alloc, &toy, 5, Some(tags))?;
     assert!(rt; answer == Answer::Sum(5));
     Ok(())
 }

@@ -19,7 +19,7 @@ module _ {F : Type 0} (b : Base F) (c : Shape F) (kind : ℕ) where
   pub accepted : (v : List F) → Accepts b.ring c v → accepts b c kind v ≡ true
   accepted v a = and_from _ _ (eq-eqb _ _ (ap b.number a.0)) (eq-eqb _ _ (ap b.number a.1))
 
-  accepts-back : Residues b.modulus b.number b.residue → (v : List F) → accepts b c kind v ≡ true → Accepts b.ring c v
+  pub accepts-back : Residues b.modulus b.number b.residue → (v : List F) → accepts b c kind v ≡ true → Accepts b.ring c v
   accepts-back residues v e =
       let k = and_parts _ _ e in
       (same_number residues _ _ (eqb-true _ _ k.0), same_number residues _ _ (eqb-true _ _ k.1))

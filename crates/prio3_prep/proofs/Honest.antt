@@ -1,7 +1,7 @@
 -- Lemmas: an honest fair report is ok, and its content is the truncated encoding.
 use Rattle.std.proofs.Common.{◌≡◌, ℕ, List, [], ◌++◌, length, map, take, drop, true, Option, Some, None, sym, ap, ◌∙◌, refl, subst}
 use Rattle.std.specs.Str.{bytes_eq}
-use Rattle.std.specs.Option.{option_and_then}
+use Rattle.std.specs.Option.{is_some, option_and_then}
 use Rattle.std.proofs.lemmas.Slice.Eq.{bytes_eq-Decides}
 use Rattle.std.proofs.lemmas.List.{take_at, drop_at}
 use Rattle.field_laws.specs.Polynomial.{add_polynomials}
@@ -13,13 +13,13 @@ use Rattle.vdaf_api.specs.declared.answer.Answer.{Answer}
 use Rattle.vdaf_api.specs.Functions.{Parts, Functions}
 use Rattle.vdaf_api.specs.Vectors.{when, plus, vector, SpaceLaws, numbers_in}
 use Rattle.vdaf_api.specs.Verdict.{opened, verdict, numbers_of, ok}
-use Rattle.vdaf_api.specs.Sums.{vector-plus}
-use Rattle.vdaf_api.specs.Verdicts.{verdict-ok}
+use Rattle.vdaf_api.specs.SumLaws.{vector-plus}
+use Rattle.vdaf_api.specs.VerdictLaws.{verdict-ok}
 use Rattle.prio3_share.specs.Base.{Base, BaseLaws}
 use Rattle.prio3_share.specs.declared.usage.Usage.TheVariants.{JointRandomness, WireSeeds}
 use Rattle.prio3_share.specs.Texts.{bytes_of, joint_seed}
 use Rattle.prio3_share.specs.Sharing.{has_joint, if_joint, joint_bytes, joint_randomness, sharing, shard, encoding}
-use Rattle.prio3_share.specs.Preparing.{Started, finish, own_part, point_of, verifier, started_at, start, out_of, accepts, combine, is_some_point, is_fair}
+use Rattle.prio3_share.specs.Preparing.{Started, finish, own_part, point_of, verifier, started_at, start, out_of, accepts, combine, is_fair}
 use Rattle.prio3_share.specs.Functions.{functions_of, space_of}
 use Rattle.prio3_share.proofs.Elements.{bind-some, vector-bytes, numbers-add}
 use Rattle.prio3_share.proofs.Lengths.{length-drawn_for, length-part, length-if_joint, if_joint-same, if_joint-true, joint-same}
@@ -53,7 +53,7 @@ same_bytes : (bytes : List ℕ) (o : Option (List ℕ)) → when (bytes_eq bytes
 same_bytes bytes o = ap (λ t. when t o) ((bytes_eq-Decides bytes bytes).1 refl)
 
 module _ {F : Type 0} {b : Base F} (laws : BaseLaws b) (c : Shape F) (keeps : ShapeLaws b.ring c) (codes : EncodeLaws b.ring c) (kind : ℕ) where
-  some_point : (o : Option F) → is_some_point b c kind o ≡ true → (t : F) × (o ≡ Some t)
+  some_point : (o : Option F) → is_some o ≡ true → (t : F) × (o ≡ Some t)
   some_point (Some t) e = (t, refl)
   some_point None e = absurd (cc)
 

@@ -1,6 +1,6 @@
 -- Lemmas: what a half, a start, a verifier share and a combination are made of, where they have a value.
 use Rattle.std.proofs.Common.{◌≡◌, ℕ, ◌+◌, List, [], length, take, drop, length-drop, Some, subst, arith}
-use Rattle.std.specs.Prelude.{nat_eq}
+use Rattle.std.specs.Prelude.{true, nat_eq}
 use Rattle.std.proofs.lemmas.Bool.{eqb-true}
 use Rattle.std.proofs.lemmas.Option.{same_Some}
 use Rattle.flp_circuits.specs.Shape.{Shape}
@@ -8,7 +8,7 @@ use Rattle.flp_proof.specs.Proof.{proof_len}
 use Rattle.aes_cmac_prg.proofs.Drawing.{length-drawn}
 use Rattle.vdaf_api.specs.declared.role.Role.{Role}
 use Rattle.vdaf_api.specs.declared.role.Role.TheVariants.{Leader, Helper}
-use Rattle.vdaf_api.specs.Spelled.{when-some}
+use Rattle.vdaf_api.specs.VectorLaws.{when-some}
 use Rattle.prio3_share.specs.Base.{Base, BaseLaws}
 use Rattle.prio3_share.specs.declared.usage.Usage.TheVariants.{HelperInput, HelperProof}
 use Rattle.prio3_share.specs.Texts.{drawn_for}
@@ -26,7 +26,10 @@ module _ {F : Type 0} (b : Base F) (c : Shape F) (kind : ℕ) where
     pub h : Half F
     pub r : List F
     pub t : F
+    pub long : nat_eq (length public) (joint_bytes c 32) ≡ true
     pub half : half_of b c kind role input ≡ Some h
+    pub joint : joint_randomness b c kind (left_part b c kind role id public h) (right_part b c kind role id public h) ≡ Some r
+    pub point : point_of b c kind verify id ≡ Some t
     pub is : s ≡ started_at b c kind role id public h r t
 
   pub began : (role : Role) (verify id public input : List ℕ) (s : Started) → start b c kind role verify id public input ≡ Some s → Began role verify id public input s
@@ -37,7 +40,7 @@ module _ {F : Type 0} (b : Base F) (c : Shape F) (kind : ℕ) where
       let two = bind-some (joint_randomness b c kind (left_part b c kind role id public one.0) (right_part b c kind role id public one.0)) _ s one.2 in
       let three = bind-some (point_of b c kind verify id) _ s two.2 in
       let some : Some (started_at b c kind role id public one.0 two.0 three.0) ≡ Some s = three.2 in
-      record { h = one.0; r = two.0; t = three.0; half = one.1; is = cc }
+      record { h = one.0; r = two.0; t = three.0; long = a.0; half = one.1; joint = two.1; point = three.1; is = cc }
 
   pub half-sizes : BaseLaws b → (role : Role) (input : List ℕ) (h : Half F) → half_of b c kind role input ≡ Some h → Sizes c h
   unfolding half_of

@@ -6,4 +6,6 @@ pub mod Measures
 pub mod Answering
 pub mod Cuts
 pub mod Vectors
+pub mod Formed
+pub mod Accepted
 pub mod Deciding

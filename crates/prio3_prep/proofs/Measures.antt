@@ -10,11 +10,12 @@ use Rattle.field_laws.specs.Polynomial.{add_polynomials}
 use Rattle.flp_circuits.specs.Shape.{Shape, ShapeLaws, EncodeLaws}
 use Rattle.vdaf_api.specs.declared.role.Role.{Role}
 use Rattle.vdaf_api.specs.declared.answer.Answer.{Answer}
+use Rattle.vdaf_api.specs.declared.shares.TheConstants.{MOST_LEADER, MOST_STEP}
 use Rattle.vdaf_api.specs.Functions.{Parts}
 use Rattle.vdaf_api.specs.Vectors.{SpaceLaws, IsOut, Below, vector}
 use Rattle.vdaf_api.specs.Verdict.{numbers_of, opened, verdict}
-use Rattle.vdaf_api.specs.Spelled.{when-some}
-use Rattle.vdaf_api.specs.Laws.{FunctionLaws, PartsAreShort}
+use Rattle.vdaf_api.specs.VectorLaws.{when-some}
+use Rattle.vdaf_api.specs.Promises.{FunctionLaws, PartsAreShort}
 use Rattle.prio3_share.specs.Base.{Base, BaseLaws}
 use Rattle.prio3_share.specs.declared.usage.Usage.TheVariants.{JointSeed}
 use Rattle.prio3_share.specs.Texts.{info, bytes_of, joint_seed}
@@ -29,6 +30,7 @@ use Rattle.prio3_prep.proofs.Cuts.{joint-le, joint-short}
 use Rattle.prio3_prep.proofs.Steps.{length-query}
 use Rattle.prio3_prep.specs.States.{Sizes}
 use Rattle.prio3_prep.proofs.Inversions.{half-sizes, Began, began}
+use Rattle.prio3_prep.proofs.Formed.{start-form, message-form}
 use Rattle.prio3_prep.proofs.Honest.{honest}
 
 module _ {F : Type 0} {b : Base F} (laws : BaseLaws b) (c : Shape F) (keeps : ShapeLaws b.ring c) (codes : EncodeLaws b.ring c) (kind : ℕ) where
@@ -46,12 +48,12 @@ module _ {F : Type 0} {b : Base F} (laws : BaseLaws b) (c : Shape F) (keeps : Sh
       → numbers_of (functions_of b c kind answer) (verdict (functions_of b c kind answer) (opened verify id p)) ≡ encoding b c kind m
   honest_laws answer verify id seed m p = honest laws c keeps codes kind answer verify id seed m p space_laws
 
-  parts_short : (id seed : List ℕ) (x : List F) (p : Parts) → length x ≡ c.input_len → x_bytes b c kind + proof_bytes b c kind + 16 ≤ 131056 → sharing b c kind id x seed ≡ Some p → PartsAreShort p
+  parts_short : (id seed : List ℕ) (x : List F) (p : Parts) → length x ≡ c.input_len → x_bytes b c kind + proof_bytes b c kind + 16 ≤ MOST_LEADER → sharing b c kind id x seed ≡ Some p → PartsAreShort p
   parts_short id seed x p hx small e =
       let have : HaveLengths b c kind p = lengths laws c keeps kind id seed x p hx e in
       record { public = omega (arith, have.public, joint-le c 32); leader = omega (arith, have.leader, joint-le c 16); helper = omega (arith, have.helper, joint-le c 16) }
 
-  share_short : (role : Role) (verify id public input share : List ℕ) → share_of b c kind role verify id public input ≡ Some share → length share ≤ 1024
+  share_short : (role : Role) (verify id public input share : List ℕ) → share_of b c kind role verify id public input ≡ Some share → length share ≤ MOST_STEP
   share_short role verify id public input share e =
       let one = bind-some (start b c kind role verify id public input) (λ s. Some s.share) share e in
       let g : Began b c kind role verify id public input one.0 = began b c kind role verify id public input one.0 one.1 in
@@ -65,7 +67,7 @@ module _ {F : Type 0} {b : Base F} (laws : BaseLaws b) (c : Shape F) (keeps : Sh
       let whole : length share ≡ length (bytes_of b v ++ if_joint c own) = sym (ap length is) ∙ ap (λ (s : Started). length s.share) g.is in
       omega (arith, length-append (bytes_of b v) (if_joint c own))
 
-  message_short : (leader helper message : List ℕ) → combine b c kind leader helper ≡ Some message → length message ≤ 1024
+  message_short : (leader helper message : List ℕ) → combine b c kind leader helper ≡ Some message → length message ≤ MOST_STEP
   unfolding combine
   message_short leader helper message e =
       let one = bind-some (verifier_of b c kind leader) _ message e in
@@ -99,13 +101,15 @@ module _ {F : Type 0} {b : Base F} (laws : BaseLaws b) (c : Shape F) (keeps : Sh
       subst (λ v. (length v ≡ c.out_len) × Below b.modulus v) is (length-map (c.truncate one.0) b.number ∙ codes.length-truncate one.0 (codes.length-encode m one.0 one.1), below-numbers laws (c.truncate one.0))
 
   -- a leader's share has to be short, which is the circuit's affair: the laws of circuits alone allow longer ones
-  pub prio_laws : (answer : List ℕ → Answer) → x_bytes b c kind + proof_bytes b c kind + 16 ≤ 131056 → FunctionLaws (functions_of b c kind answer)
+  pub prio_laws : (answer : List ℕ → Answer) → x_bytes b c kind + proof_bytes b c kind + 16 ≤ MOST_LEADER → FunctionLaws (functions_of b c kind answer)
   unfolding shard
   prio_laws answer small = record {
     space = space_laws;
     parts = λ id m seed p e. let one = bind-some (c.encode m) (λ x. sharing b c kind id x seed) p e in parts_short id seed one.0 p (codes.length-encode m one.0 one.1) small one.2;
     share = share_short;
     message = message_short;
+    halves = λ role key id public input share e. let one = bind-some (start b c kind role key id public input) (λ s. Some s.share) share e in start-form b c kind role key id public input one.0 one.1;
+    shares = message-form b c kind;
     out = out_is;
     encoding = encoding_is;
     measured = λ id m seed p hi hs e. let one = bind-some (c.encode m) (λ x. sharing b c kind id x seed) p e in (map b.number (c.truncate one.0), ap (option_and_then (λ x. Some (map b.number (c.truncate x)))) one.1);

@@ -28,7 +28,7 @@ module _ {F : Type 0} (b : Base F) (c : Shape F) (kind : ℕ) where
 
 module _ {F : Type 0} {b : Base F} (laws : BaseLaws b) (c : Shape F) (kind : ℕ) where
   -- a prep share's verifier share, read back
-  verifier-is : (v : List F) (more : List ℕ) → length v ≡ c.arity + 2 → length more ≡ joint_bytes c 16 → verifier_of b c kind (bytes_of b v ++ more) ≡ Some v
+  pub verifier-is : (v : List F) (more : List ℕ) → length v ≡ c.arity + 2 → length more ≡ joint_bytes c 16 → verifier_of b c kind (bytes_of b v ++ more) ≡ Some v
   verifier-is v more hv hm =
       let lv : length (bytes_of b v) ≡ verifier_bytes b c kind = length-bytes laws v ∙ ap (λ n. n * b.width) hv in
       let size : nat_eq (length (bytes_of b v ++ more)) (verifier_bytes b c kind + joint_bytes c 16) ≡ true = eq-eqb _ _ (omega (arith, length-append (bytes_of b v) more)) in

@@ -1,3 +1,4 @@
 pub mod Faults
 pub mod States
 pub mod Parts
+pub mod Decided

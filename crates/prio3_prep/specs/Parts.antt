@@ -11,19 +11,19 @@ use Rattle.prio3_share.specs.Preparing.{Half, Started, own_part, left_part, righ
 
 module _ {F : Type 0} (b : Base F) (c : Shape F) (kind : ℕ) where
   -- the prep share and the state at the query point t
-  abbrev pub begun_at : List F → List F → List F → List ℕ → List ℕ → F → Started
-  begun_at x proof r own message t = record {
+  abbrev pub start_at : List F → List F → List F → List ℕ → List ℕ → F → Started
+  start_at x proof r own message t = record {
     share = bytes_of b (query_of b.ring b.half b.root c b.half x proof r t) ++ own;
     out = bytes_of b (c.truncate x);
     message = message;
   }
 
   -- the same at the point that is drawn
-  unfoldable pub begun : List ℕ → List ℕ → List F → List F → List F → List ℕ → List ℕ → Option Started
-  begun verify id x proof r own message = point_of b c kind verify id >>= λ t. Some (begun_at x proof r own message t)
+  unfoldable pub start_at_drawn : List ℕ → List ℕ → List F → List F → List F → List ℕ → List ℕ → Option Started
+  start_at_drawn verify id x proof r own message = point_of b c kind verify id >>= λ t. Some (start_at x proof r own message t)
 
   -- what follows once a half has been read
-  unfoldable pub after_half : Role → List ℕ → List ℕ → List ℕ → Half F → Option Started
-  after_half role verify id public h =
+  unfoldable pub start_of_half : Role → List ℕ → List ℕ → List ℕ → Half F → Option Started
+  start_of_half role verify id public h =
       joint_randomness b c kind (left_part b c kind role id public h) (right_part b c kind role id public h) >>= λ r.
-      begun verify id h.x h.proof r (if_joint c (own_part b c kind role id h)) (if_joint c (joint_seed kind (left_part b c kind role id public h) (right_part b c kind role id public h)))
+      start_at_drawn verify id h.x h.proof r (if_joint c (own_part b c kind role id h)) (if_joint c (joint_seed kind (left_part b c kind role id public h) (right_part b c kind role id public h)))

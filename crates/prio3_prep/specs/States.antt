@@ -18,8 +18,8 @@ bytes_in (Some bytes) = bytes
 bytes_in None = []
 
 -- what a half holds
-abbrev pub held : {F : Type 0} → InputHalf F → Half F
-held h = record { x = h.x.items; proof = h.proof.items; blind = bytes_in h.blind }
+abbrev pub half_in : {F : Type 0} → InputHalf F → Half F
+half_in h = record { x = h.x.items; proof = h.proof.items; blind = bytes_in h.blind }
 
 -- how long the contents of a half are
 pub record Sizes {F : Type 0} (c : Shape F) (h : Half F) : Type 0 where
@@ -28,8 +28,8 @@ pub record Sizes {F : Type 0} (c : Shape F) (h : Half F) : Type 0 where
   pub blind : length h.blind ≡ joint_bytes c 16
 
 -- a state and its prep share
-abbrev pub started : State × Vec ℕ Global → Started
-started p = record { share = p.1.items; out = p.0.out.items; message = bytes_in p.0.joint_seed }
+abbrev pub start_in : State × Vec ℕ Global → Started
+start_in p = record { share = p.1.items; out = p.0.out.items; message = bytes_in p.0.joint_seed }
 
 -- the out share of a state, where the message is the one that it waits for
 abbrev pub state_finish : State → List ℕ → Option (List ℕ)

@@ -1,13 +1,12 @@
 //! The prep message of both prep shares, and the out share.
-ghost use Rattle.std.specs.Prelude.{◌≡◌, ◌≤◌, ◌+◌, ℕ, IfOk, length, drop};
+ghost use Rattle.std.specs.Prelude.{◌≡◌, ◌≤◌, ◌+◌, ℕ, IfOk, length};
 ghost use Rattle.std.specs.Str.{bytes_eq};
 ghost use Rattle.field_laws.specs.Polynomial.{add_polynomials};
-ghost use Rattle.vdaf_api.specs.Answered.{Prepares};
-ghost use Rattle.prio3_share.specs.Texts.{joint_seed};
-ghost use Rattle.prio3_share.specs.Sharing.{if_joint};
-ghost use Rattle.prio3_share.specs.Preparing.{accepts, combine, verifier_bytes};
-ghost use Rattle.prio3_prep.specs.States.{bytes_in, state_finish};
+ghost use Rattle.vdaf_api.specs.Answered.{Finishes, Prepares};
+ghost use Rattle.prio3_share.specs.Preparing.{accepts, are_shares, combine, message_of, verifier_bytes};
+ghost use Rattle.prio3_prep.specs.States.{Begins, bytes_in, state_finish};
 
+use crate::forms::are_shares;
 use crate::reading::{read_verifier, verifier_bytes};
 use crate::state::State;
 use field_laws::add_all;
@@ -21,7 +20,8 @@ use vdaf_api::PrepFault;
 fn is_accepted<C: Circuit>(c: &C, mut leader: Vec<C::F>, helper: &[C::F]) -> bool
     requires leader { length leader.items ≡ (C.shape c.now).arity + 2 }
     requires helper { length helper.now ≡ (C.shape c.now).arity + 2 }
-    ensures { (kind : ℕ) → result ≡ accepts ⟦<C::F as Based>⟧.base (C.shape c.now) kind (add_polynomials C.F.ring leader.items helper.now) }
+    ensures { (kind : ℕ) → result ≡ accepts ⟦<C::F as Based>⟧.base (C.shape c.now) kind
+        (add_polynomials C.F.ring leader.items helper.now) }
 {
     add_all(&mut leader, helper);
     decide(c, &leader)
@@ -37,7 +37,7 @@ fn message_of<C: Circuit>(
 ) -> Result<Vec<u8>, AllocError>
     requires leader { verifier_bytes ⟦<C::F as Based>⟧.base (C.shape c.now) kind ≤ length leader.now }
     requires helper { verifier_bytes ⟦<C::F as Based>⟧.base (C.shape c.now) kind ≤ length helper.now }
-    ensures { IfOk result (λ v. v.items ≡ if_joint (C.shape c.now) (joint_seed kind (drop (verifier_bytes ⟦<C::F as Based>⟧.base (C.shape c.now) kind) leader.now) (drop (verifier_bytes ⟦<C::F as Based>⟧.base (C.shape c.now) kind) helper.now))) }
+    ensures { IfOk result (λ v. v.items ≡ message_of ⟦<C::F as Based>⟧.base (C.shape c.now) kind leader.now helper.now) }
 {
     if c.joint_len() == 0 {
         return Ok(Vec::new(alloc));
@@ -49,19 +49,15 @@ fn message_of<C: Circuit>(
     seed.to_vec(alloc)
 }
 
-/// The prep message of the leader's and the helper's prep share: the joint seed of their parts, or no bytes where there
-/// is no joint randomness.
-///
-/// `Invalid` exactly where a prep share has another length, an element isn't below the modulus, or the sum of the
-/// verifier shares isn't accepted.
-pub fn combine<C: Circuit>(
+/// The prep message of two prep shares, and `Invalid` exactly where there is none.
+fn join<C: Circuit>(
     alloc: Global,
     c: &C,
     kind: u8,
     leader: &[u8],
     helper: &[u8],
 ) -> Result<Vec<u8>, PrepFault>
-    ensures { Prepares result (combine ⟦<C::F as Based>⟧.base (C.shape c.now) kind leader.now helper.now) }
+    ensures { Begins (λ v. v.items) result (combine ⟦<C::F as Based>⟧.base (C.shape c.now) kind leader.now helper.now) }
 {
     let leader_verifier = read_verifier(alloc, c, leader)?;
     let helper_verifier = read_verifier(alloc, c, helper)?;
@@ -69,6 +65,28 @@ pub fn combine<C: Circuit>(
         return Err(PrepFault::Invalid);
     }
     Ok(message_of(alloc, c, kind, leader, helper)?)
+}
+
+/// The prep message of the leader's and the helper's prep share: the joint seed of their parts, or no bytes where there
+/// is no joint randomness.
+///
+/// `Invalid` exactly where a prep share has another length or an element isn't below the modulus, and, once there is
+/// memory, where the sum of the verifier shares isn't accepted.
+pub fn combine<C: Circuit>(
+    alloc: Global,
+    c: &C,
+    kind: u8,
+    leader: &[u8],
+    helper: &[u8],
+) -> Result<Vec<u8>, PrepFault>
+    ensures { Prepares result
+        (are_shares ⟦<C::F as Based>⟧.base (C.shape c.now) kind leader.now helper.now)
+        (combine ⟦<C::F as Based>⟧.base (C.shape c.now) kind leader.now helper.now) }
+{
+    if !are_shares(c, leader, helper) {
+        return Err(PrepFault::Invalid);
+    }
+    join(alloc, c, kind, leader, helper)
 }
 
 impl State {
@@ -85,9 +103,10 @@ impl State {
 
 /// The out share of a half, once the prep message has come.
 ///
-/// `Invalid` exactly where the message isn't the state's joint seed, or isn't empty where there is no joint randomness.
+/// `Invalid` exactly where the message isn't the state's joint seed, or isn't empty where there is no joint randomness;
+/// memory is asked for behind that.
 pub fn finish(alloc: Global, state: &State, message: &[u8]) -> Result<Vec<u8>, PrepFault>
-    ensures { Prepares result (state_finish state.now message.now) }
+    ensures { Finishes result (state_finish state.now message.now) }
 {
     if !state.awaits(message) {
         return Err(PrepFault::Invalid);

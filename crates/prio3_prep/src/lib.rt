@@ -3,7 +3,9 @@
 //! calls, and the laws of a circuit's measurement function, among them that an honest report is accepted.
 #![tactic(auto)]
 
+mod asked;
 mod faults;
+mod forms;
 mod half;
 mod joining;
 mod laws;
@@ -12,6 +14,6 @@ mod starting;
 mod state;
 
 pub use joining::{combine, finish};
-pub use laws::{circuits_measure, honest_reports_are_accepted};
+pub use laws::{accepted_reports_are_decided, circuits_measure, honest_reports_are_accepted};
 pub use starting::init;
 pub use state::State;

@@ -5,7 +5,7 @@ ghost use Rattle.vdaf_api.specs.declared.role.Role.TheVariants.{Helper, Leader};
 ghost use Rattle.prio3_share.specs.Texts.{drawn_for};
 ghost use Rattle.prio3_share.specs.Sharing.{joint_bytes};
 ghost use Rattle.prio3_share.specs.Preparing.{elements_of, half_of, verifier_bytes, verifier_of};
-ghost use Rattle.prio3_prep.specs.States.{Begins, Sizes, bytes_in, held};
+ghost use Rattle.prio3_prep.specs.States.{Begins, Sizes, bytes_in, half_in};
 
 use crate::faults::of_draw;
 use crate::half::InputHalf;
@@ -65,7 +65,7 @@ pub(crate) fn joint_bytes<C: Circuit>(c: &C, n: usize) -> usize
 }
 
 /// How many bytes spell an input.
-fn input_bytes<C: Circuit>(c: &C) -> usize
+pub(crate) fn input_bytes<C: Circuit>(c: &C) -> usize
     ensures bytes { result ≡ (C.shape c.now).input_len * C.F.WIDTH }
     ensures few { result ≤ 131072 }
 {
@@ -73,7 +73,7 @@ fn input_bytes<C: Circuit>(c: &C) -> usize
 }
 
 /// How many bytes spell a proof.
-fn proof_bytes<C: Circuit>(c: &C) -> usize
+pub(crate) fn proof_bytes<C: Circuit>(c: &C) -> usize
     ensures bytes { result ≡ proof_len (C.shape c.now) * C.F.WIDTH }
     ensures few { result ≤ 131072 }
 {
@@ -114,7 +114,7 @@ fn blind_from(bytes: &[u8]) -> Option<[u8; 16]>
 /// The leader's half: its input share spells it.
 #[tactic(auto, unfolding(prio3_share::specs::Preparing::half_of))]
 fn leader_half<C: Circuit>(alloc: Global, c: &C, input: &[u8]) -> Result<InputHalf<C::F>, PrepFault>
-    ensures { (kind : ℕ) → Begins held result (half_of ⟦<C::F as Based>⟧.base (C.shape c.now) kind Leader input.now) }
+    ensures { (kind : ℕ) → Begins half_in result (half_of ⟦<C::F as Based>⟧.base (C.shape c.now) kind Leader input.now) }
 {
     let x_bytes = input_bytes(c);
     let proof_bytes = proof_bytes(c);
@@ -138,7 +138,7 @@ fn helper_half<C: Circuit>(
     kind: u8,
     input: &[u8],
 ) -> Result<InputHalf<C::F>, PrepFault>
-    ensures { Begins held result (half_of ⟦<C::F as Based>⟧.base (C.shape c.now) kind Helper input.now) }
+    ensures { Begins half_in result (half_of ⟦<C::F as Based>⟧.base (C.shape c.now) kind Helper input.now) }
 {
     if input.len() != 32 + joint_bytes(c, 16) {
         return Err(PrepFault::Invalid);
@@ -171,8 +171,8 @@ pub(crate) fn half_for<C: Circuit>(
     role: Role,
     input: &[u8],
 ) -> Result<InputHalf<C::F>, PrepFault>
-    ensures half { Begins held result (half_of ⟦<C::F as Based>⟧.base (C.shape c.now) kind role input.now) }
-    ensures sizes { IfOk result (λ half. Sizes (C.shape c.now) (held half)) }
+    ensures half { Begins half_in result (half_of ⟦<C::F as Based>⟧.base (C.shape c.now) kind role input.now) }
+    ensures sizes { IfOk result (λ half. Sizes (C.shape c.now) (half_in half)) }
 {
     match role {
         Role::Leader => leader_half(alloc, c, input),
@@ -186,9 +186,11 @@ pub(crate) fn read_verifier<C: Circuit>(
     c: &C,
     share: &[u8],
 ) -> Result<Vec<C::F>, PrepFault>
-    ensures verifier { (kind : ℕ) → Begins (λ v. v.items) result (verifier_of ⟦<C::F as Based>⟧.base (C.shape c.now) kind share.now) }
+    ensures verifier { (kind : ℕ) → Begins (λ v. v.items) result
+        (verifier_of ⟦<C::F as Based>⟧.base (C.shape c.now) kind share.now) }
     ensures size { IfOk result (λ v. length v.items ≡ (C.shape c.now).arity + 2) }
-    ensures room { (kind : ℕ) → OnOk result (verifier_bytes ⟦<C::F as Based>⟧.base (C.shape c.now) kind ≤ length share.now) }
+    ensures room { (kind : ℕ) → OnOk result
+        (verifier_bytes ⟦<C::F as Based>⟧.base (C.shape c.now) kind ≤ length share.now) }
 {
     let size = verifier_bytes(c);
     if share.len() != size + joint_bytes(c, 16) {

@@ -3,11 +3,13 @@ ghost use Rattle.std.specs.Prelude.{◌≡◌, ◌≤◌, ◌++◌, IfOk, length
 ghost use Rattle.flp_proof.specs.Proof.{proof_len};
 ghost use Rattle.vdaf_api.specs.Answered.{Starts};
 ghost use Rattle.prio3_share.specs.Texts.{bytes_of, joint_seed};
-ghost use Rattle.prio3_share.specs.Preparing.{helper_part_for, leader_part_for, out_of, share_of, start};
-ghost use Rattle.prio3_prep.specs.States.{Begins, bytes_in, held, started, state_finish};
-ghost use Rattle.prio3_prep.specs.Parts.{after_half, begun};
+ghost use Rattle.prio3_share.specs.Preparing.{helper_part_for, is_half, leader_part_for, out_of, share_of, start};
+ghost use Rattle.prio3_prep.specs.States.{Begins, bytes_in, half_in, start_in, state_finish};
+ghost use Rattle.prio3_prep.specs.Parts.{start_of_half, start_at_drawn};
 
+use crate::asked::Asked;
 use crate::faults::of_query;
+use crate::forms::is_half;
 use crate::half::InputHalf;
 use crate::reading::{draw, half_for, joint_bytes};
 use crate::state::State;
@@ -46,9 +48,7 @@ fn with_verifier<C: Circuit>(
 fn at_point<C: Circuit>(
     alloc: Global,
     c: &C,
-    kind: u8,
-    key: &[u8; 16],
-    id: &Id,
+    asked: Asked,
     half: &InputHalf<C::F>,
     randomness: &[C::F],
     own: &[u8],
@@ -57,9 +57,17 @@ fn at_point<C: Circuit>(
     requires input { length half.now.x.items ≡ (C.shape c.now).input_len }
     requires proof { length half.now.proof.items ≡ proof_len (C.shape c.now) }
     requires joint { length randomness.now ≡ (C.shape c.now).joint_len }
-    ensures { Begins started result (begun ⟦<C::F as Based>⟧.base (C.shape c.now) kind key.now id.now half.now.x.items half.now.proof.items randomness.now own.now (bytes_in joint_seed)) }
+    ensures { Begins start_in result (start_at_drawn ⟦<C::F as Based>⟧.base (C.shape c.now) asked.kind
+        asked.key asked.id half.now.x.items half.now.proof.items randomness.now own.now (bytes_in joint_seed)) }
 {
-    let point = draw(alloc, kind, key, Usage::QueryPoint, id, 1)?;
+    let point = draw(
+        alloc,
+        asked.kind,
+        &asked.key,
+        Usage::QueryPoint,
+        &asked.id,
+        1,
+    )?;
     match query(
         alloc,
         c,
@@ -83,7 +91,8 @@ fn seed_for(
     public: &[u8],
 ) -> Result<[u8; 16], AllocError>
     requires { length public.now ≡ 32 }
-    ensures { IfOk result (λ seed. seed ≡ joint_seed kind (leader_part_for role own.now public.now) (helper_part_for role own.now public.now)) }
+    ensures { IfOk result (λ seed. seed ≡ joint_seed kind
+        (leader_part_for role own.now public.now) (helper_part_for role own.now public.now)) }
 {
     let (leader, helper) = public.split_at(16);
     match role {
@@ -96,10 +105,7 @@ fn seed_for(
 fn with_joint<C: Circuit>(
     alloc: Global,
     c: &C,
-    kind: u8,
-    role: Role,
-    key: &[u8; 16],
-    id: &Id,
+    asked: Asked,
     public: &[u8],
     half: &InputHalf<C::F>,
     blind: &[u8; 16],
@@ -109,49 +115,48 @@ fn with_joint<C: Circuit>(
     requires proof { length half.now.proof.items ≡ proof_len (C.shape c.now) }
     requires blind { bytes_in half.now.blind ≡ blind.now }
     requires joint { 1 ≤ (C.shape c.now).joint_len }
-    ensures { Begins started result (after_half ⟦<C::F as Based>⟧.base (C.shape c.now) kind role key.now id.now public.now (held half.now)) }
+    ensures { Begins start_in result (start_of_half ⟦<C::F as Based>⟧.base (C.shape c.now) asked.kind
+        asked.role asked.key asked.id public.now (half_in half.now)) }
 {
-    let own = part_of(alloc, kind, role, id, blind, &half.x)?;
-    let seed = seed_for(alloc, kind, role, &own, public)?;
+    let own = part_of(alloc, asked.kind, asked.role, &asked.id, blind, &half.x)?;
+    let seed = seed_for(alloc, asked.kind, asked.role, &own, public)?;
     let randomness = draw(
         alloc,
-        kind,
+        asked.kind,
         &seed,
         Usage::JointRandomness,
         &[],
         c.joint_len(),
     )?;
-    at_point(alloc, c, kind, key, id, half, &randomness, &own, Some(seed))
+    at_point(alloc, c, asked, half, &randomness, &own, Some(seed))
 }
 
 /// The state and the prep share of a half.
 fn begin<C: Circuit>(
     alloc: Global,
     c: &C,
-    kind: u8,
-    role: Role,
-    key: &[u8; 16],
-    id: &Id,
+    asked: Asked,
     public: &[u8],
     input: &[u8],
 ) -> Result<(State, Vec<u8>), PrepFault>
-    ensures { Begins started result (start ⟦<C::F as Based>⟧.base (C.shape c.now) kind role key.now id.now public.now input.now) }
+    ensures { Begins start_in result (start ⟦<C::F as Based>⟧.base (C.shape c.now) asked.kind
+        asked.role asked.key asked.id public.now input.now) }
 {
     if public.len() != joint_bytes(c, 32) {
         return Err(PrepFault::Invalid);
     }
-    let half = half_for(alloc, c, kind, role, input)?;
+    let half = half_for(alloc, c, asked.kind, asked.role, input)?;
     match &half.blind {
-        Some(blind) => with_joint(alloc, c, kind, role, key, id, public, &half, blind),
-        None => at_point(alloc, c, kind, key, id, &half, &[], &[], None),
+        Some(blind) => with_joint(alloc, c, asked, public, &half, blind),
+        None => at_point(alloc, c, asked, &half, &[], &[], None),
     }
 }
 
 /// Prepares a half of a report (draft-irtf-cfrg-vdaf-03): the state that `finish` goes on with, and the prep share for
 /// the other aggregator. `key` is the task's verify key, and `kind` the byte that names the kind of measurement.
 ///
-/// `Invalid` exactly where the public share or the input share has another length, an element isn't below the modulus,
-/// a drawing is spent, or the query point is a P-th root of one.
+/// `Invalid` exactly where the public share or the input share has another length or an element isn't below the
+/// modulus, and, once there is memory, where a drawing is spent or the query point is a P-th root of one.
 pub fn init<C: Circuit>(
     alloc: Global,
     c: &C,
@@ -162,7 +167,19 @@ pub fn init<C: Circuit>(
     public: &[u8],
     input: &[u8],
 ) -> Result<(State, Vec<u8>), PrepFault>
-    ensures { Starts state_finish result (share_of ⟦<C::F as Based>⟧.base (C.shape c.now) kind role key.now id.now public.now input.now) (out_of ⟦<C::F as Based>⟧.base (C.shape c.now) kind role key.now id.now public.now input.now) }
+    ensures { Starts state_finish result
+        (is_half ⟦<C::F as Based>⟧.base (C.shape c.now) kind role public.now input.now)
+        (share_of ⟦<C::F as Based>⟧.base (C.shape c.now) kind role key.now id.now public.now input.now)
+        (out_of ⟦<C::F as Based>⟧.base (C.shape c.now) kind role key.now id.now public.now input.now) }
 {
-    begin(alloc, c, kind, role, key, id, public, input)
+    if !is_half(c, role, public, input) {
+        return Err(PrepFault::Invalid);
+    }
+    let asked = Asked {
+        kind,
+        role,
+        key: *key,
+        id: *id,
+    };
+    begin(alloc, c, asked, public, input)
 }

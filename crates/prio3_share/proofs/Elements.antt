@@ -10,7 +10,7 @@ use Rattle.field_laws.specs.Polynomial.{add_polynomials}
 use Rattle.field_laws.proofs.Polynomials.{length-add}
 use Rattle.field_laws.proofs.Spelling.{length-low_bytes}
 use Rattle.vdaf_api.specs.Vectors.{spelled, vector_of, Below}
-use Rattle.vdaf_api.specs.Spelled.{vector_of-spelled, vector_of-back}
+use Rattle.vdaf_api.specs.VectorLaws.{vector_of-spelled, vector_of-back}
 use Rattle.prio3_share.specs.Base.{Base, BaseLaws}
 use Rattle.prio3_share.specs.Texts.{bytes_of}
 use Rattle.prio3_share.specs.Sharing.{differences}

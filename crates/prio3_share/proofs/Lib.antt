@@ -4,3 +4,4 @@ pub mod Lengths
 pub mod ReadHalves
 pub mod Shared
 pub mod Added
+pub mod Sharded

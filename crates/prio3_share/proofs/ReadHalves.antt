@@ -6,7 +6,7 @@ use Rattle.std.proofs.lemmas.List.{length-append, take_at, drop_at}
 use Rattle.flp_circuits.specs.Shape.{Shape}
 use Rattle.flp_proof.specs.Proof.{proof_len}
 use Rattle.vdaf_api.specs.declared.role.Role.TheVariants.{Leader, Helper}
-use Rattle.vdaf_api.specs.Spelled.{when-some}
+use Rattle.vdaf_api.specs.VectorLaws.{when-some}
 use Rattle.prio3_share.specs.Base.{Base, BaseLaws}
 use Rattle.prio3_share.specs.declared.usage.Usage.TheVariants.{HelperInput, HelperProof}
 use Rattle.prio3_share.specs.Texts.{drawn_for, bytes_of}

@@ -6,7 +6,7 @@ use Rattle.vdaf_api.specs.declared.space.Space.{Space}
 use Rattle.vdaf_api.specs.Functions.{Functions}
 use Rattle.prio3_share.specs.Base.{Base}
 use Rattle.prio3_share.specs.Sharing.{shard, encoding}
-use Rattle.prio3_share.specs.Preparing.{share_of, combine, out_of, is_fair}
+use Rattle.prio3_share.specs.Preparing.{is_half, share_of, is_share, combine, out_of, is_fair}
 
 -- how out shares are spelled
 abbrev pub space_of : {F : Type 0} → Base F → Shape F → Space
@@ -18,7 +18,9 @@ functions_of b c kind answer = record {
   space = space_of b c;
   shard = shard b c kind;
   encoding = encoding b c kind;
+  is_half = is_half b c kind;
   share = share_of b c kind;
+  is_share = is_share b c kind;
   combine = combine b c kind;
   out = out_of b c kind;
   is_fair = is_fair b c kind;

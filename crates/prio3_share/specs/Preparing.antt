@@ -1,5 +1,6 @@
 -- Preparing: what an aggregator makes of its half, and what the two prep shares give together.
-use Rattle.std.specs.Prelude.{ℕ, ◌+◌, ◌*◌, ◌^◌, List, [], ◌++◌, length, map, take, drop, Bool, true, false, not, ◌&&◌, nat_eq, Option, Some, None, slice_index_or}
+use Rattle.std.specs.Prelude.{ℕ, ◌+◌, ◌*◌, ◌^◌, List, [], ◌++◌, length, map, take, drop, Bool, not, ◌&&◌, nat_eq, Option, Some, slice_index_or}
+use Rattle.std.specs.Option.{is_some}
 use Rattle.std.specs.Str.{bytes_eq}
 use Rattle.field_laws.specs.Ring.{power}
 use Rattle.field_laws.specs.Polynomial.{add_polynomials}
@@ -70,6 +71,15 @@ module _ {F : Type 0} (b : Base F) (c : Shape F) (kind : ℕ) where
       drawn_for b kind (take 16 (drop 16 input)) HelperProof [] (proof_len c) >>= λ proof.
       Some (record { x = x; proof = proof; blind = drop 16 (drop 16 input) }))
 
+  -- whether an input share has the form of one: for the leader that it spells a half, for the helper its length
+  unfoldable pub is_input : Role → List ℕ → Bool
+  is_input Leader input = is_some (half_of Leader input)
+  is_input Helper input = nat_eq (length input) (32 + joint_bytes c 16)
+
+  -- whether a half has the form of one, by its role, its public share and its input share
+  abbrev pub is_half : Role → List ℕ → List ℕ → Bool
+  is_half role public input = nat_eq (length public) (joint_bytes c 32) && is_input role input
+
   -- the part that a half gives itself
   abbrev pub own_part : Role → List ℕ → Half F → List ℕ
   own_part role id h = part b kind role id h.blind h.x
@@ -133,19 +143,26 @@ module _ {F : Type 0} (b : Base F) (c : Shape F) (kind : ℕ) where
       when (nat_eq (length share) (verifier_bytes + joint_bytes c 16)) (
       elements_of b (c.arity + 2) (take verifier_bytes share))
 
+  -- whether bytes have the form of a prep share: they spell a verifier share, and have the length
+  abbrev pub is_share : List ℕ → Bool
+  is_share share = is_some (verifier_of share)
+
+  -- whether both are prep shares by their form
+  abbrev pub are_shares : List ℕ → List ℕ → Bool
+  are_shares leader helper = is_share leader && is_share helper
+
+  -- the joint seed of the parts behind two verifier shares; no bytes where there is no joint randomness
+  abbrev pub message_of : List ℕ → List ℕ → List ℕ
+  message_of leader helper = if_joint c (joint_seed kind (drop verifier_bytes leader) (drop verifier_bytes helper))
+
   -- the prep message of the leader's and the helper's prep shares
   unfoldable pub combine : List ℕ → List ℕ → Option (List ℕ)
   combine leader helper =
       verifier_of leader >>= λ v.
       verifier_of helper >>= λ w.
       when (accepts (add_polynomials b.ring v w)) (
-      Some (if_joint c (joint_seed kind (drop verifier_bytes leader) (drop verifier_bytes helper))))
+      Some (message_of leader helper))
 
-  -- whether the drawing of the query point has a value, and that is no root
-  abbrev pub is_some_point : Option F → Bool
-  is_some_point (Some t) = true
-  is_some_point None = false
-
-  -- whether a report of this identifier can be prepared under the verify key
+  -- whether a report of this identifier can be prepared under the verify key: there is a query point
   abbrev pub is_fair : List ℕ → List ℕ → Bool
-  is_fair verify id = is_some_point (point_of verify id)
+  is_fair verify id = is_some (point_of verify id)

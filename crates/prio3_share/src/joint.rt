@@ -51,8 +51,10 @@ fn both_parts<F: Field>(
     keys: &SeedKeys,
     input: &Halves<F>,
 ) -> Result<Parts, AllocError>
-    ensures leader { IfOk result (λ p. p.leader ≡ part ⟦<F as Based>⟧.base kind Leader id.now keys.now.leader_blind input.now.leader.items) }
-    ensures helper { IfOk result (λ p. p.helper ≡ part ⟦<F as Based>⟧.base kind Helper id.now keys.now.helper_blind input.now.helper.items) }
+    ensures leader { IfOk result (λ p. p.leader ≡ part ⟦<F as Based>⟧.base kind Leader id.now
+        keys.now.leader_blind input.now.leader.items) }
+    ensures helper { IfOk result (λ p. p.helper ≡ part ⟦<F as Based>⟧.base kind Helper id.now
+        keys.now.helper_blind input.now.helper.items) }
 {
     let leader = part_of(
         alloc,
@@ -83,7 +85,8 @@ pub(crate) fn joint_of<C: Circuit>(
     keys: &SeedKeys,
     input: &Halves<C::F>,
 ) -> Result<Joint<C::F>, ShardFault>
-    ensures randomness { Splits (λ joint. joint.randomness.items) result (joint_randomness ⟦<C::F as Based>⟧.base (C.shape c.now) kind
+    ensures randomness { Splits (λ joint. joint.randomness.items) result
+        (joint_randomness ⟦<C::F as Based>⟧.base (C.shape c.now) kind
         (left ⟦<C::F as Based>⟧.base (C.shape c.now) kind id.now keys.now (seen input.now))
         (right ⟦<C::F as Based>⟧.base (C.shape c.now) kind id.now keys.now (seen input.now))) }
     ensures public { IfOk result (λ joint. joint.public.items ≡ if_joint (C.shape c.now)

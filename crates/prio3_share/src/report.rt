@@ -43,7 +43,8 @@ pub(crate) fn helper_share<C: Circuit>(
     c: &C,
     keys: &SeedKeys,
 ) -> Result<Vec<u8>, AllocError>
-    ensures { IfOk result (λ v. v.items ≡ keys.now.input ++ (keys.now.proof ++ if_joint (C.shape c.now) keys.now.helper_blind)) }
+    ensures { IfOk result (λ v. v.items ≡ keys.now.input
+        ++ (keys.now.proof ++ if_joint (C.shape c.now) keys.now.helper_blind)) }
 {
     let mut share = Vec::new(alloc);
     share.extend_from_slice(&keys.input)?;

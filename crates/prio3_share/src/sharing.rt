@@ -53,7 +53,8 @@ fn shares_of<C: Circuit>(
     ensures public { IfOk result (λ s. s.public ≡ public.items) }
     ensures leader { IfOk result (λ s. s.leader ≡ bytes_of ⟦<C::F as Based>⟧.base input.now.leader.items
         ++ (bytes_of ⟦<C::F as Based>⟧.base proof.now.leader.items ++ if_joint (C.shape c.now) keys.now.leader_blind)) }
-    ensures helper { IfOk result (λ s. s.helper ≡ keys.now.input ++ (keys.now.proof ++ if_joint (C.shape c.now) keys.now.helper_blind)) }
+    ensures helper { IfOk result (λ s. s.helper ≡ keys.now.input
+        ++ (keys.now.proof ++ if_joint (C.shape c.now) keys.now.helper_blind)) }
 {
     let leader = leader_share(alloc, c, &input.leader, &proof.leader, &keys.leader_blind)?;
     let helper = helper_share(alloc, c, keys)?;
@@ -83,9 +84,9 @@ fn share_with<C: Circuit>(
     Ok(shares_of(alloc, c, keys, &input, &proof, joint.public)?)
 }
 
-/// The shares of an input of the circuit, whether or not it keeps the circuit's rules: an aggregator refuses the others.
-/// `kind` is the byte that names the kind of measurement, and the seed is the client's own secret. `Spent` exactly where
-/// a drawing is; `BadValue` never.
+/// The shares of an input of the circuit, whether or not it keeps the circuit's rules: an aggregator refuses those that
+/// don't. `kind` is the byte that names the kind of measurement, and the seed is the client's own secret. `Spent`
+/// exactly where a drawing is; `BadValue` never.
 pub fn shard_input<C: Circuit>(
     alloc: Global,
     c: &C,

@@ -5,7 +5,7 @@ use Rattle.field_laws.specs.Vector.{add_each}
 use Rattle.vdaf_api.specs.declared.space.Space.{Space}
 use Rattle.vdaf_api.specs.Vectors.{vector, zero_share, plus, SpaceLaws, numbers, numbers_in}
 use Rattle.vdaf_api.specs.Totals.{total, total_numbers, Pair, leaders, helpers, contents, AreOuts}
-use Rattle.vdaf_api.specs.Sums.{plus_comm, plus_assoc, plus-zero, vector-plus, vector-zero}
+use Rattle.vdaf_api.specs.SumLaws.{plus_comm, plus_assoc, plus-zero, vector-plus, vector-zero}
 
 module _ {s : Space} (laws : SpaceLaws s) where
   pub plus-swap : (a b c d : List ℕ) → plus s (plus s a b) (plus s c d) ≡ plus s (plus s a c) (plus s b d)

@@ -24,8 +24,12 @@ pub record Functions : Type 0 where
   pub shard : List ℕ → ℕ → List ℕ → Option Parts
   -- the measurement as a vector; none where it isn't one of the kind
   pub encoding : ℕ → Option (List ℕ)
+  -- whether a half has the form of one, by its role, its public share and its input share: their lengths, and that what spells numbers spells them below the modulus
+  pub is_half : Role → List ℕ → List ℕ → Bool
   -- the prep share of a half: role, verify key, identifier, public share, input share
   pub share : Role → List ℕ → List ℕ → List ℕ → List ℕ → Option (List ℕ)
+  -- whether bytes have the form of a prep share, likewise
+  pub is_share : List ℕ → Bool
   -- the prep message of the leader's and the helper's prep shares
   pub combine : List ℕ → List ℕ → Option (List ℕ)
   -- the out share of a half, as `share`, and the prep message

@@ -1,13 +1,13 @@
 pub mod Kind
 pub mod Role
 pub mod Vectors
-pub mod Spelled
-pub mod Sums
+pub mod VectorLaws
+pub mod SumLaws
 pub mod Totals
 pub mod Functions
 pub mod Verdict
-pub mod Laws
-pub mod Verdicts
+pub mod Promises
+pub mod VerdictLaws
 pub mod Answered
 pub mod Toy
 pub mod ToyLaws

@@ -1,5 +1,5 @@
 -- Sums of many out shares, and of many contents.
-use Rattle.std.specs.Prelude.{ℕ, List, [], ◌∷◌, map}
+use Rattle.std.specs.Prelude.{◌≡◌, ℕ, List, [], ◌∷◌, map}
 use Rattle.field_laws.specs.Vector.{sum_of}
 use Rattle.vdaf_api.specs.declared.space.Space.{Space}
 use Rattle.vdaf_api.specs.Vectors.{plus, zero_share, numbers, IsOut}
@@ -34,3 +34,7 @@ contents s ps = map (λ p. numbers s (plus s p.leader p.helper)) ps
 abbrev pub AreOuts : Space → List Pair → Type 0
 AreOuts s [] = Unit {0}
 AreOuts s (p ∷ ps) = (IsOut s p.leader × IsOut s p.helper) × AreOuts s ps
+
+-- the sums of both sides' out shares add to the sum of the contents
+abbrev pub TotalsAreAnswered : Space → Type 0
+TotalsAreAnswered s = (ps : List Pair) → AreOuts s ps → numbers s (plus s (total s (leaders ps)) (total s (helpers ps))) ≡ total_numbers s (contents s ps)

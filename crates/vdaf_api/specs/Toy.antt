@@ -5,12 +5,13 @@ use Rattle.field_laws.specs.Bytes.{low_bytes, from_low}
 use Rattle.vdaf_api.specs.declared.space.Space.{Space}
 use Rattle.vdaf_api.specs.declared.role.Role.{Role}
 use Rattle.vdaf_api.specs.declared.answer.Answer.TheVariants.{Sum}
+use Rattle.vdaf_api.specs.declared.toy.TheConstants.{LIMIT, MODULUS}
 use Rattle.vdaf_api.specs.Functions.{Functions, Parts}
 use Rattle.vdaf_api.specs.Vectors.{when, vector}
 
 -- an out share is one number below 2 ^ 64, in 8 bytes
 abbrev pub toy_space : Space
-toy_space = record { modulus = 18446744073709551616; width = 8; size = 1 }
+toy_space = record { modulus = MODULUS; width = 8; size = 1 }
 
 -- no bytes
 abbrev pub is_empty : List ℕ → Bool
@@ -27,15 +28,23 @@ is_toy bytes = some_vector (vector toy_space bytes)
 
 -- the helper's share: the number that the seed's first 8 bytes spell
 abbrev pub toy_helper : List ℕ → ℕ
-toy_helper seed = from_low (take 8 seed) % 18446744073709551616
+toy_helper seed = from_low (take 8 seed) % MODULUS
 
 -- the leader's share: the measurement minus that
 abbrev pub toy_leader : ℕ → List ℕ → ℕ
-toy_leader m seed = (m + (18446744073709551616 - toy_helper seed)) % 18446744073709551616
+toy_leader m seed = (m + (MODULUS - toy_helper seed)) % MODULUS
 
--- the shares of a measurement below 2 ^ 32, with an empty public share
+-- both shares in 8 bytes each, with an empty public share
+abbrev pub toy_parts : ℕ → List ℕ → Parts
+toy_parts m seed = record { public = []; leader = low_bytes 8 (toy_leader m seed); helper = low_bytes 8 (toy_helper seed) }
+
+-- the shares of a measurement below 2 ^ 32
 unfoldable pub toy_shard : List ℕ → ℕ → List ℕ → Option Parts
-toy_shard id m seed = when (nat_lt m 4294967296) (Some (record { public = []; leader = low_bytes 8 (toy_leader m seed); helper = low_bytes 8 (toy_helper seed) }))
+toy_shard id m seed = when (nat_lt m LIMIT) (Some (toy_parts m seed))
+
+-- whether a half is one: no public share, and an out share as its input share
+unfoldable pub is_toy_half : Role → List ℕ → List ℕ → Bool
+is_toy_half role public input = is_empty public && is_toy input
 
 -- the prep share of a half, which is empty
 unfoldable pub toy_share : Role → List ℕ → List ℕ → List ℕ → List ℕ → Option (List ℕ)
@@ -55,7 +64,7 @@ toy_out role key id public input message = when (is_empty public && is_toy input
 
 -- the measurement as a vector
 unfoldable pub toy_encoding : ℕ → Option (List ℕ)
-toy_encoding m = when (nat_lt m 4294967296) (Some (m ∷ []))
+toy_encoding m = when (nat_lt m LIMIT) (Some (m ∷ []))
 
 -- what the toy function computes; every report is fair
 abbrev pub toy_functions : Functions
@@ -63,7 +72,9 @@ toy_functions = record {
   space = toy_space;
   shard = toy_shard;
   encoding = toy_encoding;
+  is_half = is_toy_half;
   share = toy_share;
+  is_share = is_empty;
   combine = toy_combine;
   out = toy_out;
   is_fair = λ key id. true;

@@ -5,6 +5,7 @@ use Rattle.std.proofs.Common.{zero, suc}
 use Rattle.field_laws.specs.Bytes.{low_bytes, from_low}
 use Rattle.field_laws.specs.Vector.{add_each}
 use Rattle.vdaf_api.specs.declared.space.Space.{Space}
+use Rattle.vdaf_api.specs.declared.space.TheConstants.{MOST_OUT}
 
 -- o where the test holds
 abbrev pub when : {A : Type 0} → Bool → Option A → Option A
@@ -83,4 +84,4 @@ pub record SpaceLaws (s : Space) : Type 0 where
   pub few_bytes : s.width ≤ 16
   pub room : s.modulus ≤ 256 ^ s.width
   pub some_entry : 1 ≤ s.size
-  pub few_entries : s.size * s.width ≤ 16384
+  pub few_entries : s.size * s.width ≤ MOST_OUT

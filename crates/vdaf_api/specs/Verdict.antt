@@ -2,6 +2,7 @@
 use Rattle.std.specs.Prelude.{ℕ, List, Option, Some, None}
 use Rattle.vdaf_api.specs.declared.role.Role.{Role}
 use Rattle.vdaf_api.specs.declared.role.Role.TheVariants.{Leader, Helper}
+use Rattle.vdaf_api.specs.declared.answer.Answer.{Answer}
 use Rattle.vdaf_api.specs.declared.step.Step.{Step}
 use Rattle.vdaf_api.specs.declared.step.Step.TheVariants.{Continued, Failed}
 use Rattle.vdaf_api.specs.Functions.{Functions, Parts, ◌>>=◌}
@@ -97,3 +98,7 @@ content_of f (bad code) = None
 abbrev pub numbers_of : Functions → Verdict → Option (List ℕ)
 numbers_of f (ok leader helper) = Some (numbers f.space (plus f.space leader helper))
 numbers_of f (bad code) = None
+
+-- the answer of two out shares, or of two sums of them
+abbrev pub answer_of_shares : Functions → List ℕ → List ℕ → Answer
+answer_of_shares f leader helper = f.answer (numbers f.space (plus f.space leader helper))

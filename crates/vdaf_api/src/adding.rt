@@ -121,7 +121,8 @@ fn add_modulo(p: u128, a: u128, b: u128) -> u128
     if a >= room { a - room } else { a + b }
 }
 
-fn is_vector(p: u128, width: usize, size: usize, bytes: &[u8]) -> bool
+/// Whether the bytes spell `size` numbers below `p`, each in `width` bytes, the lowest first. It takes no memory.
+pub fn is_vector(p: u128, width: usize, size: usize, bytes: &[u8]) -> bool
     requires { width ≤ 16 }
     ensures { IsTrue result ↔ IsVector p width size bytes.now }
 {
@@ -144,7 +145,8 @@ fn read_from(
 ) -> Result<(), AllocError>
     requires width { width ≤ 16 }
     requires length { length bytes.now ≡ size * width }
-    ensures { (p : ℕ) (xs : List ℕ) → vector_of p width size bytes.now ≡ Some xs → OnOk result (numbers.new.items ≡ numbers.old.items ++ xs) }
+    ensures { (p : ℕ) (xs : List ℕ) → vector_of p width size bytes.now ≡ Some xs
+        → OnOk result (numbers.new.items ≡ numbers.old.items ++ xs) }
 {
     if size == 0 {
         return Ok(());
@@ -158,7 +160,8 @@ fn add_from(p: u128, width: usize, size: usize, total: &mut [u8], out: &[u8])
     requires width { width ≤ 16 }
     requires total { IsVector p width size total.old }
     requires out { IsVector p width size out.now }
-    ensures { (xs ys : List ℕ) → vector_of p width size total.old ≡ Some xs → vector_of p width size out.now ≡ Some ys → total.new ≡ spelled width (add_each p xs ys) }
+    ensures { (xs ys : List ℕ) → vector_of p width size total.old ≡ Some xs → vector_of p width size out.now ≡ Some ys
+        → total.new ≡ spelled width (add_each p xs ys) }
 {
     if size > 0 {
         let (here, rest) = total.split_at_mut(width);

@@ -4,9 +4,15 @@ ghost use Rattle.vdaf_api.specs.Kind.{ascends, is_kind, IsKind};
 
 use crate::bounds::Bounds;
 
-/// What a task measures: how many measurements of 0 and 1 are 1; the sum of numbers of `bits` bits, 1 to 64; or how
-/// many numbers fall into each bucket, a number into the first whose bound it is not above, or into the last, which has
-/// none. There are 1 to 63 bounds, and they ascend strictly.
+/// The most bits of the numbers that are summed.
+pub const MOST_BITS: u8 = 64;
+
+/// The most bounds of a histogram.
+pub const MOST_BOUNDS: usize = 63;
+
+/// What a task measures: how many measurements of 0 and 1 are 1; the sum of numbers of `bits` bits, 1 to [`MOST_BITS`];
+/// or how many numbers fall into each bucket, a number into the first whose bound it is not above, or into the last,
+/// which has none. There are 1 to [`MOST_BOUNDS`] bounds, and they ascend strictly.
 #[derive(Clone, Debug, PartialEq, Eq, Drop)]
 pub enum Kind {
     /// Measurements of 0 and 1.
@@ -25,9 +31,9 @@ impl Kind {
     {
         match self {
             Kind::Count => true,
-            Kind::Sum { bits } => (1..=64).contains(bits),
+            Kind::Sum { bits } => (1..=MOST_BITS).contains(bits),
             Kind::Histogram { bounds } => {
-                (1..=63).contains(&bounds.len()) && ascend(bounds.as_slice())
+                (1..=MOST_BOUNDS).contains(&bounds.len()) && ascend(bounds.as_slice())
             }
         }
     }

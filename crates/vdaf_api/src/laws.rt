@@ -1,38 +1,38 @@
 //! The laws of measurement functions, for the layers above.
-ghost use Rattle.std.specs.Prelude.{◌≡◌, ◌≤◌, ℕ, List, length, Some, true};
-ghost use Rattle.vdaf_api.specs.Vectors.{IsOut, plus, numbers};
-ghost use Rattle.vdaf_api.specs.Functions.{Parts};
-ghost use Rattle.vdaf_api.specs.Verdict.{Opened, opened, ok, verdict, numbers_of};
-ghost use Rattle.vdaf_api.specs.Laws.{PartsAreShort, AddToContent};
-ghost use Rattle.vdaf_api.specs.Totals.{Pair, AreOuts, leaders, helpers, contents, total, total_numbers};
-ghost use Rattle.vdaf_api.specs.declared.role.Role.{Role};
+ghost use Rattle.std.specs.Prelude.{◌≤◌, ℕ, List, length};
+ghost use Rattle.vdaf_api.specs.Vectors.{IsOut};
+ghost use Rattle.vdaf_api.specs.Promises.{CombinesSharesAlone, CountsHonestReports, MakesShortMessages, MakesShortParts, MakesShortShares, OutSharesAdd, StartsHalvesAlone};
+ghost use Rattle.vdaf_api.specs.Totals.{TotalsAreAnswered};
+ghost use Rattle.vdaf_api.specs.declared.space.TheConstants.{MOST_OUT};
 
 use crate::vdaf::Vdaf;
 
 /// A law: an honest fair report is prepared, and its content is the measurement's vector.
 pub fn honest_reports_are_counted<V: Vdaf>(v: &V)
-    ensures { (key id : List ℕ) (m : ℕ) (seed : List ℕ) (p : Parts) → length key ≡ 16 → length id ≡ 16 → length seed ≡ 16
-        → (V.functions v.now).shard id m seed ≡ Some p → (V.functions v.now).is_fair key id ≡ true
-        → numbers_of (V.functions v.now) (verdict (V.functions v.now) (opened key id p)) ≡ (V.functions v.now).encoding m }
+    ensures { CountsHonestReports (V.functions v.now) }
 {}
 
 /// A law: the two out shares of a report that is prepared add to its content.
 pub fn out_shares_add_to_contents<V: Vdaf>(v: &V)
-    ensures { (r : Opened) (leader helper content : List ℕ) → verdict (V.functions v.now) r ≡ ok leader helper
-        → numbers_of (V.functions v.now) (verdict (V.functions v.now) r) ≡ Some content → AddToContent (V.functions v.now).space leader helper content }
+    ensures { OutSharesAdd (V.functions v.now) }
 {}
 
 /// A law: two sums of out shares add to the sum of the contents.
 pub fn sums_are_answered<V: Vdaf>(v: &V)
-    ensures { (ps : List Pair) → AreOuts (V.functions v.now).space ps
-        → numbers (V.functions v.now).space (plus (V.functions v.now).space (total (V.functions v.now).space (leaders ps)) (total (V.functions v.now).space (helpers ps)))
-        ≡ total_numbers (V.functions v.now).space (contents (V.functions v.now).space ps) }
+    ensures { TotalsAreAnswered (V.functions v.now).space }
 {}
 
 /// A law: shares, prep shares and prep messages are short.
 pub fn lengths_are_bounded<V: Vdaf>(v: &V)
-    ensures parts { (id : List ℕ) (m : ℕ) (seed : List ℕ) (p : Parts) → (V.functions v.now).shard id m seed ≡ Some p → PartsAreShort p }
-    ensures share { (role : Role) (key id public input share : List ℕ) → (V.functions v.now).share role key id public input ≡ Some share → length share ≤ 1024 }
-    ensures message { (leader helper message : List ℕ) → (V.functions v.now).combine leader helper ≡ Some message → length message ≤ 1024 }
-    ensures out { (out : List ℕ) → IsOut (V.functions v.now).space out → length out ≤ 16384 }
+    ensures parts { MakesShortParts (V.functions v.now) }
+    ensures share { MakesShortShares (V.functions v.now) }
+    ensures message { MakesShortMessages (V.functions v.now) }
+    ensures out { (out : List ℕ) → IsOut (V.functions v.now).space out → length out ≤ MOST_OUT }
+{}
+
+/// A law: what has not the form of a half has no prep share, and what has not that of a prep share no prep message. So
+/// `init` and `combine` answer `Invalid` there, and never that memory ran out.
+pub fn forms_are_needed<V: Vdaf>(v: &V)
+    ensures half { StartsHalvesAlone (V.functions v.now) }
+    ensures shares { CombinesSharesAlone (V.functions v.now) }
 {}

@@ -17,17 +17,19 @@ mod step;
 mod toy;
 mod vdaf;
 
+pub use adding::is_vector;
 pub use answer::{Answer, Collected};
 pub use bounds::Bounds;
 pub use fault::{PrepFault, ShardFault};
-pub use kind::Kind;
+pub use kind::{Kind, MOST_BITS, MOST_BOUNDS};
 pub use laws::{
-    honest_reports_are_counted, lengths_are_bounded, out_shares_add_to_contents, sums_are_answered,
+    forms_are_needed, honest_reports_are_counted, lengths_are_bounded, out_shares_add_to_contents,
+    sums_are_answered,
 };
 pub use numbers::Numbers;
 pub use role::Role;
-pub use shares::Shares;
-pub use space::Space;
+pub use shares::{MOST_HELPER, MOST_LEADER, MOST_PUBLIC, MOST_STEP, Shares};
+pub use space::{MOST_OUT, Space};
 pub use step::Step;
 pub use toy::{Toy, ToyPrep};
 pub use vdaf::Vdaf;

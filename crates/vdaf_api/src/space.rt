@@ -1,5 +1,8 @@
 //! How out shares are spelled.
 
+/// The most bytes of an out share.
+pub const MOST_OUT: usize = 16_384;
+
 /// How the out shares of a measurement function are spelled: `size` numbers below `modulus`, each in `width` bytes, the
 /// lowest byte first.
 #[derive(Clone, Copy, Debug, PartialEq, Eq)]
@@ -8,6 +11,6 @@ pub struct Space {
     pub modulus: u128,
     /// How many bytes spell a number, 1 to 16.
     pub width: usize,
-    /// How many numbers an out share has, in at most 16,384 bytes together.
+    /// How many numbers an out share has, in at most [`MOST_OUT`] bytes together.
     pub size: usize,
 }

@@ -1,3 +1,4 @@
+ghost use Rattle.std.specs.Prelude.{◌≡◌, ◌≤◌};
 ghost use Rattle.vdaf_api.specs.Vectors.{SpaceLaws};
 
 use super::*;
@@ -114,7 +115,17 @@ fn toy_takes_shares_of_8_bytes_alone(rt: HostRuntime) -> Result<(), Fail> {
         let started = toy.init(alloc, Role::Leader, &key, &id, public, input);
         assert!(rt; matches!(started, Err(PrepFault::Invalid)));
     }
-    assert!(rt; matches!(toy.combine(alloc, &[], &[0]), Err(PrepFault::Invalid)));
+    for (ours, theirs) in [
+        ([].as_slice(), [0].as_slice()),
+        ([0].as_slice(), [].as_slice()),
+    ] {
+        let message = toy.combine(alloc, ours, theirs);
+        assert!(rt; matches!(message, Err(PrepFault::Invalid)));
+    }
+    let (state, _) = toy
+        .init(alloc, Role::Helper, &key, &id, &[], &[0; 8])
+        .expect(&rt, "a state");
+    assert!(rt; matches!(toy.finish(alloc, &state, &[0]), Err(PrepFault::Invalid)));
     Ok(())
 }
 
@@ -158,21 +169,74 @@ fn bounds_and_numbers_give_back_what_they_were_made_of(rt: HostRuntime) -> Resul
     Ok(())
 }
 
-/// Two numbers modulo 2^64 - 2^32 + 1.
-fn pairs() -> Space
-    ensures { SpaceLaws result }
+#[test]
+fn the_limits_are_those_of_the_formats(rt: HostRuntime) {
+    assert_eq!(rt;
+        (MOST_PUBLIC, MOST_LEADER, MOST_HELPER),
+        (32_000, 131_072 - 16, 32_000 - 16)
+    );
+    assert_eq!(rt; (MOST_STEP, MOST_OUT), (1024, 16 * 1024));
+    assert_eq!(rt; (MOST_BITS, MOST_BOUNDS), (64, 63));
+}
+
+#[test]
+fn a_histogram_has_at_most_63_bounds(rt: HostRuntime) -> Result<(), Fail> {
+    let alloc = rt.alloc();
+    let mut bounds = Vec::new(alloc);
+    for i in 0..63_u64 {
+        bounds.push(i)?;
+    }
+    let most = Kind::Histogram {
+        bounds: Bounds::new(bounds.clone()?),
+    };
+    assert!(rt; most.is_valid());
+    bounds.push(63)?;
+    let more = Kind::Histogram {
+        bounds: Bounds::new(bounds),
+    };
+    assert!(rt; !more.is_valid());
+    Ok(())
+}
+
+/// Some numbers modulo 2^64 - 2^32 + 1.
+fn numbers(size: usize) -> Space
+    requires some { 1 ≤ size }
+    requires few { size ≤ 8 }
+    ensures laws { SpaceLaws result }
+    ensures width { result.width ≡ 8 }
 {
     Space {
         modulus: 18_446_744_069_414_584_321,
         width: 8,
-        size: 2,
+        size,
     }
+}
+
+#[test]
+fn vectors_of_each_length_add(rt: HostRuntime) -> Result<(), Fail> {
+    let alloc = rt.alloc();
+    for size in 1..9_usize {
+        let space = numbers(size);
+        let ones = vec![in alloc; 1u8; 8 * size]?;
+        let zero = space.zero(alloc)?;
+        assert!(rt; space.is_out(&ones) && space.is_out(&zero));
+        let sums = space.sum_numbers(alloc, &ones, &ones)?;
+        let kept = space.sum_numbers(alloc, &zero, &ones)?;
+        assert_eq!(rt; (sums.len(), kept.len()), (size, size));
+        for sum in &sums {
+            assert_eq!(rt; *sum, 0x0202_0202_0202_0202, "{size} numbers");
+        }
+        for one in &kept {
+            assert_eq!(rt; *one, 0x0101_0101_0101_0101, "{size} numbers");
+        }
+    }
+    Ok(())
 }
 
 #[test]
 fn out_shares_are_numbers_below_the_modulus(rt: HostRuntime) -> Result<(), Fail> {
     let alloc = rt.alloc();
-    let space = pairs();
+    let space = numbers(2);
     let mut total = space.zero(alloc)?;
     let out = [1, 0, 0, 0, 0, 0, 0, 0, 0, 0, 0, 0, 255, 255, 255, 255];
     for wanted in [

@@ -1,8 +1,8 @@
 //! A measurement function for tests.
-ghost use Rattle.std.specs.Prelude.{◌≡◌, [], IfOk, ◌&&◌};
-ghost use Rattle.field_laws.specs.Bytes.{low_bytes};
+ghost use Rattle.std.specs.Prelude.{◌≡◌, IfOk, ◌&&◌};
+ghost use Rattle.vdaf_api.specs.Answered.{parts_of};
 ghost use Rattle.vdaf_api.specs.Vectors.{SpaceLaws};
-ghost use Rattle.vdaf_api.specs.Toy.{toy_space, toy_functions, toy_finish, is_toy, is_empty, toy_leader, toy_helper};
+ghost use Rattle.vdaf_api.specs.Toy.{toy_space, toy_functions, toy_finish, toy_parts, is_toy, is_empty};
 ghost use Rattle.vdaf_api.specs.ToyLaws.{toy_laws};
 
 use crate::adding::{low, number};
@@ -22,6 +22,12 @@ use std::alloc::{AllocError, Global};
 #[derive(Clone, Copy, Debug)]
 pub struct Toy {}
 
+/// What the measurements are below.
+const LIMIT: u64 = 4_294_967_296;
+
+/// What both shares are added modulo, 2^64.
+const MODULUS: u128 = 18_446_744_073_709_551_616;
+
 /// A half's out share.
 #[derive(Debug, Drop)]
 pub struct ToyPrep {
@@ -33,17 +39,17 @@ fn the_space() -> Space
     ensures laws { SpaceLaws result }
 {
     Space {
-        modulus: 18446744073709551616,
+        modulus: MODULUS,
         width: 8,
         size: 1,
     }
 }
 
 fn shares(alloc: Global, m: u64, seed: &[u8; 16]) -> Result<Shares, AllocError>
-    ensures { IfOk result (λ s. (s.public ≡ []) × (s.leader ≡ low_bytes 8 (toy_leader m seed.now)) × (s.helper ≡ low_bytes 8 (toy_helper seed.now))) }
+    ensures { IfOk result (λ s. parts_of s ≡ toy_parts m seed.now) }
 {
-    let helper = number(&seed[..8]) % 18446744073709551616;
-    let leader = (u128::from(m) + (18446744073709551616 - helper)) % 18446744073709551616;
+    let helper = number(&seed[..8]) % MODULUS;
+    let leader = (u128::from(m) + (MODULUS - helper)) % MODULUS;
     Ok(Shares {
         public: Bytes::new(Vec::new(alloc)),
         leader: Bytes::new(low(alloc, 8, leader)?),
@@ -58,7 +64,7 @@ fn takes(public: &[u8], input: &[u8]) -> bool
     public.is_empty() && the_space().is_out(input)
 }
 
-#[tactic(auto, using(crate::specs::ToyLaws::toy_tests), unfolding(crate::specs::Toy::toy_shard, crate::specs::Toy::toy_share, crate::specs::Toy::toy_combine, crate::specs::Toy::toy_finish, crate::specs::Toy::toy_out, crate::specs::Toy::toy_encoding))]
+#[tactic(auto, using(crate::specs::ToyLaws::toy_tests), unfolding(crate::specs::Toy::toy_shard, crate::specs::Toy::is_toy_half, crate::specs::Toy::toy_share, crate::specs::Toy::toy_combine, crate::specs::Toy::toy_finish, crate::specs::Toy::toy_out, crate::specs::Toy::toy_encoding))]
 impl Vdaf for Toy {
     type Prep = ToyPrep;
 
@@ -77,7 +83,7 @@ impl Vdaf for Toy {
     }
 
     fn shard(&self, alloc: Global, id: &Id, m: u64, seed: &[u8; 16]) -> Result<Shares, ShardFault> {
-        if m >= 4294967296 {
+        if m >= LIMIT {
             return Err(ShardFault::BadValue);
         }
         match shares(alloc, m, seed) {

@@ -1,10 +1,11 @@
 //! The calls of a measurement function.
 ghost use Rattle.std.specs.Prelude.{◌≡◌, ◌↔◌, ℕ, List, Option, IfOk, IsTrue};
 ghost use Rattle.vdaf_api.specs.Kind.{IsKind};
-ghost use Rattle.vdaf_api.specs.Vectors.{IsOut, plus, zero_share, numbers};
+ghost use Rattle.vdaf_api.specs.Vectors.{IsOut, plus, zero_share};
 ghost use Rattle.vdaf_api.specs.Functions.{Functions};
-ghost use Rattle.vdaf_api.specs.Laws.{FunctionLaws};
-ghost use Rattle.vdaf_api.specs.Answered.{Shards, Prepares, Starts};
+ghost use Rattle.vdaf_api.specs.Verdict.{answer_of_shares};
+ghost use Rattle.vdaf_api.specs.Promises.{FunctionLaws};
+ghost use Rattle.vdaf_api.specs.Answered.{Combines, Finishes, Shards, StartsHalf};
 ghost use Rattle.vdaf_api.specs.declared.kind.Kind.{Kind};
 
 use crate::answer::Answer;
@@ -38,13 +39,14 @@ pub trait Vdaf: Drop {
         requires { IsKind kind.now }
         ensures { IfOk result (λ v. functions v ≡ of_kind kind.now) };
 
-    /// The shares of a measurement: `BadValue` exactly where it isn't one of the kind, and `Spent` exactly where it is
-    /// and a drawing from the seed is spent.
+    /// The shares of a measurement. It is `BadValue` exactly where the measurement isn't one of the kind, and `Spent`
+    /// only where it is and a drawing from the seed is spent. `BadValue` is told however little memory there is.
     fn shard(&self, alloc: Global, id: &Id, m: u64, seed: &[u8; 16]) -> Result<Shares, ShardFault>
         ensures { Shards result ((functions self.now).encoding m) ((functions self.now).shard id.now m seed.now) };
 
-    /// Begins to prepare a half under a verify key: its state and its prep share. `Invalid` exactly where there is
-    /// none, and then no message gives the half an out share.
+    /// Begins to prepare a half under a verify key: its state and its prep share. It is `Invalid` only where there is
+    /// none, and then no message gives the half an out share. What hasn't the form of a half is `Invalid` however little
+    /// memory there is.
     fn init(
         &self,
         alloc: Global,
@@ -54,15 +56,16 @@ pub trait Vdaf: Drop {
         public: &[u8],
         input: &[u8],
     ) -> Result<(Self::Prep, Vec<u8>), PrepFault>
-        ensures { Starts finish_of result ((functions self.now).share role key.now id.now public.now input.now) ((functions self.now).out role key.now id.now public.now input.now) };
+        ensures { StartsHalf (functions self.now) finish_of role key.now id.now public.now input.now result };
 
-    /// The prep message of both prep shares. `Invalid` exactly where there is none.
+    /// The prep message of both prep shares. It is `Invalid` only where there is none, and always where one of them
+    /// hasn't the form of a prep share.
     fn combine(&self, alloc: Global, leader: &[u8], helper: &[u8]) -> Result<Vec<u8>, PrepFault>
-        ensures { Prepares result ((functions self.now).combine leader.now helper.now) };
+        ensures { Combines (functions self.now) leader.now helper.now result };
 
     /// The out share of a half. `Invalid` exactly where there is none with this message.
     fn finish(&self, alloc: Global, prep: &Self::Prep, message: &[u8]) -> Result<Vec<u8>, PrepFault>
-        ensures { Prepares result (finish_of prep.now message.now) };
+        ensures { Finishes result (finish_of prep.now message.now) };
 
     /// How out shares are spelled. It takes no memory.
     fn space(&self) -> Space
@@ -95,7 +98,7 @@ pub trait Vdaf: Drop {
     fn answer(&self, alloc: Global, leader: &[u8], helper: &[u8]) -> Result<Answer, AllocError>
         requires leader { IsOut (functions self.now).space leader.now }
         requires helper { IsOut (functions self.now).space helper.now }
-        ensures { IfOk result (λ a. a ≡ (functions self.now).answer (numbers (functions self.now).space (plus (functions self.now).space leader.now helper.now))) };
+        ensures { IfOk result (λ a. a ≡ answer_of_shares (functions self.now) leader.now helper.now) };
 
     /// It keeps the laws of measurement functions.
     ghost laws: { (v : Self) → FunctionLaws (functions v) };

@@ -1,5 +1,5 @@
 use Rattle.dap_seal.specs.Reports.{opened_report}
-use Rattle.vdaf_api.specs.Verdicts.{ok-outs}
+use Rattle.vdaf_api.specs.VerdictLaws.{ok-outs}
 use Rattle.dap_direct.proofs.prepared.prepare.Goals as goal
 
 pub returns-in-Ok-clause-outs : goal.returns-in-Ok-clause-outs

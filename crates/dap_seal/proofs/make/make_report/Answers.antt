@@ -7,7 +7,7 @@ use Rattle.dap_messages.specs.Messages.{report}
 use Rattle.dap_tasks.specs.Task.{PlainTask}
 use Rattle.vdaf_api.specs.Answered.{parts_of}
 use Rattle.vdaf_api.specs.Functions.{Parts}
-use Rattle.vdaf_api.specs.Laws.{PartsAreShort}
+use Rattle.vdaf_api.specs.Promises.{PartsAreShort}
 use Rattle.dap_seal.specs.Reports.{report_of}
 use Rattle.dap_seal.proofs.Honest.{honest-allowed}
 use Rattle.dap_seal.proofs.make.make_report.Goals as goal

@@ -5,10 +5,10 @@ use Rattle.prio3_kinds.proofs.Itself.{count_vector, sum_vector, histogram_vector
 use Rattle.prio3_kinds.proofs.laws.honest_reports_count_themselves.Goals as goal
 
 pub returns-clause-count : goal.returns-clause-count
-returns-clause-count c key id seed m p hk hi hs small shares fair = (kind_laws Count tt).honest key id m seed p hk hi hs shares fair ∙ count_vector m small
+returns-clause-count c m small key id seed p hk hi hs shares fair = (kind_laws Count tt).honest key id m seed p hk hi hs shares fair ∙ count_vector m small
 
 pub returns-clause-sum : goal.returns-clause-sum
-returns-clause-sum c key id seed bits m p hk hi hs some few small shares fair = (kind_laws (Sum bits) (some, few)).honest key id m seed p hk hi hs shares fair ∙ sum_vector bits m few small
+returns-clause-sum c bits m ranges small key id seed p hk hi hs shares fair = (kind_laws (Sum bits) ranges).honest key id m seed p hk hi hs shares fair ∙ sum_vector bits m ranges.1 small
 
 pub returns-clause-histogram : goal.returns-clause-histogram
-returns-clause-histogram c key id seed bounds m p hk hi hs ranges shares fair = (kind_laws (Histogram bounds) ranges).honest key id m seed p hk hi hs shares fair ∙ histogram_vector bounds m
+returns-clause-histogram c bounds m ranges key id seed p hk hi hs shares fair = (kind_laws (Histogram bounds) ranges).honest key id m seed p hk hi hs shares fair ∙ histogram_vector bounds m

@@ -5,7 +5,7 @@ pub returns-clause-count : goal.returns-clause-count
 returns-clause-count c = count_vector
 
 pub returns-clause-sum : goal.returns-clause-sum
-returns-clause-sum c = sum_vector
+returns-clause-sum c bits m h = sum_vector bits m h.1
 
 pub returns-clause-histogram : goal.returns-clause-histogram
 returns-clause-histogram c = histogram_vector

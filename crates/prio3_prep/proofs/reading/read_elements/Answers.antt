@@ -2,7 +2,7 @@ use Rattle.std.proofs.Common.{◌≡◌, ℕ, List, [], ◌∷◌, ◌++◌, ◌
 use Rattle.std.specs.Option.{option_and_then}
 use Rattle.std.proofs.lemmas.List.{length-append, map-append}
 use Rattle.vdaf_api.specs.Vectors.{vector_of, element_of}
-use Rattle.vdaf_api.specs.Spelled.{element_of-low}
+use Rattle.vdaf_api.specs.VectorLaws.{element_of-low}
 use Rattle.prio3_share.proofs.Elements.{residues-numbers}
 use Rattle.prio3_share.proofs.Fields.{kept}
 use Rattle.prio3_prep.proofs.Vectors.{behind, behind-step, behind-none, behind-end, element-none, row_less}

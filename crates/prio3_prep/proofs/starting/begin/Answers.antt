@@ -4,7 +4,7 @@ use Rattle.std.proofs.lemmas.Bool.{eq-eqb, ne_eqb}
 use Rattle.aes_cmac_prg.proofs.Drawing.{drawn-none}
 use Rattle.prio3_share.specs.Sharing.{joint_bytes}
 use Rattle.prio3_share.specs.Preparing.{start}
-use Rattle.prio3_prep.specs.Parts.{begun, after_half}
+use Rattle.prio3_prep.specs.Parts.{start_at_drawn, start_of_half}
 use Rattle.prio3_prep.proofs.Cuts.{blind-joint, no_blind-joint, joint-some, joint-zero}
 use Rattle.prio3_prep.proofs.starting.begin.Goals as goal
 
@@ -27,7 +27,7 @@ with_joint-requires-clause-joint g c =
     joint-some shape (blind-joint shape c.in_ok-half.half.blind c.in-Some.blind c.in-Some.is c.in_ok-half.half.blind_size c.in_ok-half.ensures.sizes.blind)
 
 pub returns-in-Some : goal.returns-in-Some
-unfolding start after_half begun
+unfolding start start_of_half start_at_drawn
 returns-in-Some g c = rw (eq-eqb (length c.args.public.now) (joint_bytes (g.C.Circuit.shape c.args.c.now) 32) (c.if-public-joint_bytes.false ∙ c.joint_bytes.ensures), c.in_ok-half.ensures.half) c.with_joint.ensures
 
 pub at_point-requires-clause-joint : goal.at_point-requires-clause-joint
@@ -36,7 +36,7 @@ at_point-requires-clause-joint g c =
     sym (joint-zero shape (no_blind-joint shape c.in_ok-half.half.blind c.in-None.is c.in_ok-half.ensures.sizes.blind))
 
 pub returns : goal.returns
-unfolding start begun
+unfolding start start_at_drawn
 returns g c =
     let shape = g.C.Circuit.shape c.args.c.now in
     rw (

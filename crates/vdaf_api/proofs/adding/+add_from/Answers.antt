@@ -2,7 +2,7 @@ use Rattle.std.proofs.Common.{◌≡◌, ◌+◌, ◌-◌, ◌%◌, ◌<◌, ◌
 use Rattle.field_laws.specs.Bytes.{low_bytes, from_low}
 use Rattle.vdaf_api.specs.Vectors.{spelled, vector_of, IsVector}
 use Rattle.field_laws.specs.Vector.{add_each}
-use Rattle.vdaf_api.specs.Spelled.{FirstOf, first_of, vector-zero_len, spelled-step, spelled-none}
+use Rattle.vdaf_api.proofs.FirstNumbers.{FirstOf, first_of, vector-zero_len, spelled-step, spelled-none}
 use Rattle.vdaf_api.proofs.adding.+add_from.Goals as goal
 
 long : (p w n : ℕ) (bs : List ℕ) → 0 < n → IsVector p w n bs → w ≤ length bs

@@ -2,7 +2,7 @@ use Rattle.std.proofs.Common.{◌≡◌, ◌-◌, ◌<◌, ◌≤◌, ℕ, zero,
 use Rattle.std.proofs.lemmas.Bool.Decides.{nat_tests}
 use Rattle.field_laws.specs.Bytes.{from_low}
 use Rattle.vdaf_api.specs.Vectors.{vector_of, IsVector}
-use Rattle.vdaf_api.specs.Spelled.{FirstOf, first_of, vector-zero_len, vector-none_len, vector-cons}
+use Rattle.vdaf_api.proofs.FirstNumbers.{FirstOf, first_of, vector-zero_len, vector-none_len, vector-cons}
 use Rattle.vdaf_api.proofs.adding.+is_vector.Goals as goal
 
 empty : (p w : ℕ) (bs : List ℕ) → length bs ≡ 0 → IsVector p w 0 bs

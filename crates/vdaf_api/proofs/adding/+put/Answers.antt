@@ -1,6 +1,6 @@
 use Rattle.std.proofs.Common.{◌≡◌, ◌-◌, ◌<◌, ◌/◌, ◌%◌, ℕ, refl, ap, sym, ◌∙◌, List, [], ◌∷◌, ◌++◌, length, arith, slice_set}
 use Rattle.field_laws.specs.Bytes.{low_bytes}
-use Rattle.vdaf_api.specs.Spelled.{low_bytes-none}
+use Rattle.vdaf_api.proofs.FirstNumbers.{low_bytes-none}
 use Rattle.field_laws.proofs.Spelling.{low_bytes-step}
 use Rattle.vdaf_api.proofs.adding.+put.Goals as goal
 

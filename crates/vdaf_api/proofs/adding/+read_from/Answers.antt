@@ -1,7 +1,7 @@
 use Rattle.std.proofs.Common.{◌≡◌, ◌-◌, ◌<◌, ℕ, List, [], ◌∷◌, ◌++◌, Some, OnOk, Result, Ok, Err, ap, sym, ◌∙◌, arith, append-nil, append_assoc}
 use Rattle.field_laws.specs.Bytes.{from_low}
 use Rattle.vdaf_api.specs.Vectors.{vector_of}
-use Rattle.vdaf_api.specs.Spelled.{FirstOf, first_of, vector-zero_len}
+use Rattle.vdaf_api.proofs.FirstNumbers.{FirstOf, first_of, vector-zero_len}
 use Rattle.vdaf_api.proofs.adding.+read_from.Goals as goal
 
 on_ok : {T E : Type 0} {P Q : Type 0} (r : Result T E) → (P → Q) → OnOk r P → OnOk r Q

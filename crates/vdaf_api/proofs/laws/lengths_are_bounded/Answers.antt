@@ -1,6 +1,6 @@
 use Rattle.std.proofs.Common.{arith}
 use Rattle.vdaf_api.specs.Vectors.{SpaceLaws}
-use Rattle.vdaf_api.specs.Spelled.{Spells, vector_of-back}
+use Rattle.vdaf_api.specs.VectorLaws.{Spells, vector_of-back}
 use Rattle.vdaf_api.proofs.laws.lengths_are_bounded.Goals as goal
 
 pub returns-clause-parts : goal.returns-clause-parts

@@ -1,4 +1,4 @@
-use Rattle.vdaf_api.specs.Verdicts.{ok-adds}
+use Rattle.vdaf_api.specs.VerdictLaws.{ok-adds}
 use Rattle.vdaf_api.proofs.laws.out_shares_add_to_contents.Goals as goal
 
 pub returns : goal.returns

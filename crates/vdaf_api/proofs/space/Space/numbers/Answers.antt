@@ -1,6 +1,6 @@
 use Rattle.std.proofs.Common.{◌≡◌, ◌++◌, length, ap, sym, ◌∙◌, ◌<◌, get_or, subst}
 use Rattle.vdaf_api.specs.Vectors.{numbers_in}
-use Rattle.vdaf_api.specs.Spelled.{vector_of-back, below-at}
+use Rattle.vdaf_api.specs.VectorLaws.{vector_of-back, below-at}
 use Rattle.vdaf_api.proofs.space.Space.numbers.Goals as goal
 use Rattle.vdaf_api.proofs.space.Space.numbers.Goals.{In_ok-read_from}
 

@@ -1,6 +1,6 @@
 use Rattle.std.proofs.Common.{◌≡◌, ◌∙◌, sym, subst}
 use Rattle.vdaf_api.specs.Vectors.{IsOut, plus}
-use Rattle.vdaf_api.specs.Sums.{plus-is_out}
+use Rattle.vdaf_api.specs.SumLaws.{plus-is_out}
 use Rattle.vdaf_api.proofs.space.Space.sum_numbers.Goals as goal
 
 pub numbers-requires-clause-out : goal.numbers-requires-clause-out

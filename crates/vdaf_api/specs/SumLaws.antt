@@ -6,7 +6,7 @@ use Rattle.std.proofs.lemmas.List.{length-replicate}
 use Rattle.field_laws.specs.Vector.{add_each}
 use Rattle.vdaf_api.specs.declared.space.Space.{Space}
 use Rattle.vdaf_api.specs.Vectors.{spelled, vector_of, Below, vector, IsOut, zero_share, sum_in, plus, SpaceLaws}
-use Rattle.vdaf_api.specs.Spelled.{vector_of-spelled, vector_of-back, Spells}
+use Rattle.vdaf_api.specs.VectorLaws.{vector_of-spelled, vector_of-back, Spells}
 
 pub add_each-comm : (p : ℕ) (xs ys : List ℕ) → length xs ≡ length ys → add_each p xs ys ≡ add_each p ys xs
 add_each-comm p [] [] e = refl

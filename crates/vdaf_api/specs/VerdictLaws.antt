@@ -8,9 +8,9 @@ use Rattle.vdaf_api.specs.declared.step.Step.TheVariants.{Continued, Failed}
 use Rattle.vdaf_api.specs.Functions.{Functions, Parts}
 use Rattle.field_laws.specs.Vector.{add_each}
 use Rattle.vdaf_api.specs.Vectors.{IsOut, vector, numbers, numbers_in, plus}
-use Rattle.vdaf_api.specs.Sums.{vector-plus}
+use Rattle.vdaf_api.specs.SumLaws.{vector-plus}
 use Rattle.vdaf_api.specs.Verdict.{Opened, opened, ok, bad, or_invalid, helper_step, leader_message, item_after, leader_item, out_of, helper_out, leader_out, both_outs, verdict_after, verdict, numbers_of}
-use Rattle.vdaf_api.specs.Laws.{FunctionLaws, AddToContent}
+use Rattle.vdaf_api.specs.Promises.{FunctionLaws, AddToContent}
 
 pub verdict-ok : (f : Functions) (key id : List ℕ) (p : Parts) (ls hs message lo ho : List ℕ)
     → f.share Leader key id p.public p.leader ≡ Some ls → f.share Helper key id p.public p.helper ≡ Some hs → f.combine ls hs ≡ Some message
@@ -24,6 +24,24 @@ verdict-ok f key id p ls hs message lo ho e1 e2 e3 e4 e5 =
     ∙ ap (option_and_then (λ o. Some message)) e4 in
     let item : leader_item f r ≡ Continued message = ap (item_after f r) helper ∙ ap or_invalid own in
     ap (verdict_after f r) item ∙ ap (λ o. both_outs o (helper_out f r message)) e4 ∙ ap (both_outs (Some lo)) e5
+
+-- a leader's item that goes on has the prep message of both prep shares
+pub ok-combined : (f : Functions) (key id : List ℕ) (p : Parts) (ls hs message : List ℕ) → f.share Leader key id p.public p.leader ≡ Some ls → f.share Helper key id p.public p.helper ≡ Some hs
+    → leader_item f (opened key id p) ≡ Continued message → f.combine ls hs ≡ Some message
+ok-combined f key id p ls hs message e1 e2 item =
+    let r : Opened = opened key id p in
+    let helper : helper_step f r ≡ Continued hs = ap or_invalid e2 in
+    let own : leader_message f r p.leader hs ≡ option_and_then (λ m. option_and_then (λ o. Some m) (f.out Leader key id p.public p.leader m)) (f.combine ls hs) =
+    ap (option_and_then (λ ours. option_and_then (λ m. option_and_then (λ o. Some m) (f.out Leader key id p.public p.leader m)) (f.combine ours hs))) e1 in
+    go (f.combine ls hs) (sym (ap (item_after f r) helper ∙ ap or_invalid own) ∙ item)
+  where
+    out : (m : List ℕ) (q : Option (List ℕ)) → or_invalid (option_and_then (λ o. Some m) q) ≡ Continued message → Some m ≡ Some message
+    out m (Some o) e = cc
+    out m None e = absurd (cc)
+
+    go : (o : Option (List ℕ)) → or_invalid (option_and_then (λ m. option_and_then (λ o. Some m) (f.out Leader key id p.public p.leader m)) o) ≡ Continued message → o ≡ Some message
+    go (Some m) e = out m (f.out Leader key id p.public p.leader m) e
+    go None e = absurd (cc)
 
 -- the out shares of a verdict that is ok are out shares, and each side's own step gives its own
 pub record IsOk (f : Functions) (r : Opened) (lo ho : List ℕ) : Type 0 where
