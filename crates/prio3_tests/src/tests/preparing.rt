@@ -1,13 +1,11 @@
 use super::steps::{
-    Steps, check_changed_bytes, check_inits, check_joining, check_other_part, check_steps,
-    is_refused,
+    Steps, check_changed_bytes, check_forged, check_inits, check_joining, check_other_part,
+    check_steps,
 };
 use field64::Field64;
 use field128::Field128;
 use flp_circuits::{Count, Histogram, Sum};
 use std::test::Fail;
-use stream_tests::SmallField;
-use vdaf_api::Role;
 
 const P64: &str = "01000000ffffffff";
 
@@ -61,7 +59,7 @@ fn prepares_a_count(rt: HostRuntime) -> Result<(), Fail> {
     let count = Count::<Field64>::new();
     let steps = count_of_1();
     check_steps(&rt, alloc, &count, 0, &steps)?;
-    check_changed_bytes(&rt, alloc, &count, 0, &steps, &[0, 16, 31])?;
+    check_changed_bytes(&rt, alloc, &count, 0, &steps)?;
     check_inits(&rt, alloc, &count, 0, &steps, P64)?;
     check_joining(&rt, alloc, &count, 0, &steps, P64)
 }
@@ -72,10 +70,11 @@ fn prepares_a_sum(rt: HostRuntime) -> Result<(), Fail> {
     let sum = Sum::<Field128>::new(2);
     let steps = sum_of_2();
     check_steps(&rt, alloc, &sum, 1, &steps)?;
-    check_changed_bytes(&rt, alloc, &sum, 1, &steps, &[0, 15, 16, 31])?;
+    check_changed_bytes(&rt, alloc, &sum, 1, &steps)?;
     check_inits(&rt, alloc, &sum, 1, &steps, P128)?;
     check_joining(&rt, alloc, &sum, 1, &steps, P128)?;
-    check_other_part(&rt, alloc, &sum, 1, &steps)
+    check_other_part(&rt, alloc, &sum, 1, &steps)?;
+    check_forged(&rt, alloc, &sum, 1, &steps)
 }
 
 #[test]
@@ -86,26 +85,9 @@ fn prepares_a_histogram(rt: HostRuntime) -> Result<(), Fail> {
     let histogram = Histogram::<Field128>::new(bounds);
     let steps = bucket_of_11();
     check_steps(&rt, alloc, &histogram, 2, &steps)?;
-    check_changed_bytes(&rt, alloc, &histogram, 2, &steps, &[0, 15, 16, 31])?;
+    check_changed_bytes(&rt, alloc, &histogram, 2, &steps)?;
     check_inits(&rt, alloc, &histogram, 2, &steps, P128)?;
-    check_other_part(&rt, alloc, &histogram, 2, &steps)
-}
-
-// At the small field one number in 21 is an element. So the helper's input is spent, or its proof; and of the verify keys
-// one gives a point, one none, and one the point 1, which is a root.
-#[test]
-fn what_is_spent_or_a_root_is_invalid(rt: HostRuntime) -> Result<(), Fail> {
-    let alloc = rt.alloc();
-    let sum = Sum::<SmallField>::new(8);
-    let count = Count::<SmallField>::new();
-    let any = [0; 16];
-    let helper = Role::Helper;
-    assert!(rt; is_refused(alloc, &sum, 1, helper, &any, &[0; 32], &[0; 48])?);
-    assert!(rt; is_refused(alloc, &count, 0, helper, &any, &[], &[1; 32])?);
-    for (key, refused) in [(0_u128, false), (12, true), (91_691, true)] {
-        let verify = key.to_be_bytes();
-        let got = is_refused(alloc, &count, 0, Role::Leader, &verify, &[], &[0; 18])?;
-        assert_eq!(rt; got, refused, "verify key {key}");
-    }
-    Ok(())
+    check_joining(&rt, alloc, &histogram, 2, &steps, P128)?;
+    check_other_part(&rt, alloc, &histogram, 2, &steps)?;
+    check_forged(&rt, alloc, &histogram, 2, &steps)
 }

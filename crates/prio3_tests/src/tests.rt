@@ -1,2 +1,4 @@
 mod preparing;
+mod refused;
+mod sharing;
 mod steps;

@@ -1,12 +1,14 @@
 use dap_bytes::Id;
+use field_laws::Field;
 use flp_circuits::Circuit;
 use prio3_prep::{State, combine, finish, init};
+use prio3_share::shard_input;
 use std::alloc::{AllocError, Global};
 use std::process::Abort;
 use std::test::Fail;
 use vdaf_api::{PrepFault, Role};
 
-const ID: Id = [0, 1, 2, 3, 4, 5, 6, 7, 8, 9, 10, 11, 12, 13, 14, 15];
+pub(super) const ID: Id = [0, 1, 2, 3, 4, 5, 6, 7, 8, 9, 10, 11, 12, 13, 14, 15];
 
 const KEY: [u8; 16] = [
     16, 17, 18, 19, 20, 21, 22, 23, 24, 25, 26, 27, 28, 29, 30, 31,
@@ -100,25 +102,12 @@ pub(super) fn check_steps<C: Circuit>(
 }
 
 /// Whether the call has no value; any other fault is the caller's.
-fn is_invalid<T: Drop>(answer: Result<T, PrepFault>) -> Result<bool, PrepFault> {
+pub(super) fn is_invalid<T: Drop>(answer: Result<T, PrepFault>) -> Result<bool, PrepFault> {
     match answer {
         Ok(_) => Ok(false),
         Err(PrepFault::Invalid) => Ok(true),
         Err(fault) => Err(fault),
     }
-}
-
-/// Whether a half of a report is refused at once under a verify key.
-pub(super) fn is_refused<C: Circuit>(
-    alloc: Global,
-    c: &C,
-    kind: u8,
-    role: Role,
-    key: &[u8; 16],
-    public: &[u8],
-    input: &[u8],
-) -> Result<bool, PrepFault> {
-    is_invalid(init(alloc, c, kind, role, key, &ID, public, input))
 }
 
 /// The stage at which a report is refused.
@@ -169,22 +158,31 @@ fn flipped(alloc: Global, bytes: &[u8], place: usize) -> Result<Vec<u8>, AllocEr
     Ok(changed)
 }
 
-/// The bytes behind a beginning of the same length as these.
-fn begun_with(alloc: Global, start: &[u8], bytes: &[u8]) -> Result<Vec<u8>, AllocError> {
+/// The bytes with others at a place.
+fn with_bytes(
+    alloc: Global,
+    bytes: &[u8],
+    place: usize,
+    others: &[u8],
+) -> Result<Vec<u8>, AllocError> {
     let mut changed = Vec::new(alloc);
-    changed.extend_from_slice(start)?;
-    for byte in bytes.iter().skip(start.len()) {
+    for byte in bytes.iter().take(place) {
+        changed.push(*byte)?;
+    }
+    changed.extend_from_slice(others)?;
+    for byte in bytes.iter().skip(changed.len()) {
         changed.push(*byte)?;
     }
     Ok(changed)
 }
 
-/// A byte more than these.
-fn longer(alloc: Global, bytes: &[u8]) -> Result<Vec<u8>, AllocError> {
-    let mut changed = Vec::new(alloc);
-    changed.extend_from_slice(bytes)?;
-    changed.push(0)?;
-    Ok(changed)
+/// A byte more than these, a byte fewer, and none.
+fn other_lengths(alloc: Global, bytes: &[u8]) -> Result<[Vec<u8>; 3], AllocError> {
+    let mut longer = bytes.to_vec(alloc)?;
+    longer.push(0)?;
+    let mut shorter = bytes.to_vec(alloc)?;
+    let _ = shorter.pop();
+    Ok([longer, shorter, Vec::new(alloc)])
 }
 
 /// A changed byte in any part of the report is refused when the prep shares are combined.
@@ -194,27 +192,29 @@ pub(super) fn check_changed_bytes<C: Circuit>(
     c: &C,
     kind: u8,
     steps: &Steps,
-    places: &[usize],
 ) -> Result<(), Fail> {
     let report = report_of(alloc, steps)?;
-    for place in places {
-        let public = flipped(alloc, &report.public, *place)?;
-        if !public.is_empty() {
-            let stage = stage_of(alloc, c, kind, &public, &report.leader, &report.helper)?;
-            check_stage(rt, stage, Stage::Combine);
-        }
-        let leader = flipped(alloc, &report.leader, *place)?;
-        let stage = stage_of(alloc, c, kind, &report.public, &leader, &report.helper)?;
+    let (public, leader, helper) = (&report.public, &report.leader, &report.helper);
+    for place in (0..leader.len()).step_by(8) {
+        let other = flipped(alloc, leader, place)?;
+        let stage = stage_of(alloc, c, kind, public, &other, helper)?;
         check_stage(rt, stage, Stage::Combine);
-        let helper = flipped(alloc, &report.helper, *place)?;
-        let stage = stage_of(alloc, c, kind, &report.public, &report.leader, &helper)?;
+    }
+    for place in (0..helper.len()).step_by(8) {
+        let other = flipped(alloc, helper, place)?;
+        let stage = stage_of(alloc, c, kind, public, leader, &other)?;
+        check_stage(rt, stage, Stage::Combine);
+    }
+    for place in (0..public.len()).step_by(8) {
+        let other = flipped(alloc, public, place)?;
+        let stage = stage_of(alloc, c, kind, &other, leader, helper)?;
         check_stage(rt, stage, Stage::Combine);
     }
     Ok(())
 }
 
 /// A part of another length is refused at once, and so is an element that isn't below the modulus, whose bytes are
-/// those of `modulus` here.
+/// those of `modulus` here, at each place of an element.
 pub(super) fn check_inits<C: Circuit>(
     rt: &impl Abort,
     alloc: Global,
@@ -224,20 +224,34 @@ pub(super) fn check_inits<C: Circuit>(
     modulus: &str,
 ) -> Result<(), Fail> {
     let report = report_of(alloc, steps)?;
-    let public = longer(alloc, &report.public)?;
-    let stage = stage_of(alloc, c, kind, &public, &report.leader, &report.helper)?;
-    check_stage(rt, stage, Stage::Init);
-    let leader = longer(alloc, &report.leader)?;
-    let stage = stage_of(alloc, c, kind, &report.public, &leader, &report.helper)?;
-    check_stage(rt, stage, Stage::Init);
-    let helper = longer(alloc, &report.helper)?;
-    let stage = stage_of(alloc, c, kind, &report.public, &report.leader, &helper)?;
-    check_stage(rt, stage, Stage::Init);
+    let (public, leader, helper) = (&report.public, &report.leader, &report.helper);
+    for other in other_lengths(alloc, public)? {
+        if other.len() != public.len() {
+            let stage = stage_of(alloc, c, kind, &other, leader, helper)?;
+            check_stage(rt, stage, Stage::Init);
+        }
+    }
+    for other in other_lengths(alloc, leader)? {
+        let stage = stage_of(alloc, c, kind, public, &other, helper)?;
+        check_stage(rt, stage, Stage::Init);
+    }
+    for other in other_lengths(alloc, helper)? {
+        let stage = stage_of(alloc, c, kind, public, leader, &other)?;
+        check_stage(rt, stage, Stage::Init);
+    }
     let spelled = hex::decode(alloc, modulus)?;
-    let leader = begun_with(alloc, &spelled, &report.leader)?;
-    let stage = stage_of(alloc, c, kind, &report.public, &leader, &report.helper)?;
-    check_stage(rt, stage, Stage::Init);
+    let elements = leader.len().saturating_sub(joint_len(public));
+    for place in (0..elements).step_by(spelled.len().max(1)) {
+        let other = with_bytes(alloc, leader, place, &spelled)?;
+        let stage = stage_of(alloc, c, kind, public, &other, helper)?;
+        check_stage(rt, stage, Stage::Init);
+    }
     Ok(())
+}
+
+/// How many bytes a blind and a part have in a report with this public share.
+fn joint_len(public: &[u8]) -> usize {
+    public.len() / 2
 }
 
 /// Prep shares of another length or with the modulus as an element are refused, and so is another message than the
@@ -261,19 +275,35 @@ pub(super) fn check_joining<C: Circuit>(
         &report.public,
         &report.leader,
     )?;
-    let other = hex::decode(alloc, steps.helper_share)?;
-    let stage = stage_after(alloc, c, kind, &state, &share, &other)?;
+    let theirs = hex::decode(alloc, steps.helper_share)?;
+    let stage = stage_after(alloc, c, kind, &state, &share, &theirs)?;
     check_stage(rt, stage, Stage::Prepared);
-    let long = longer(alloc, &other)?;
-    let stage = stage_after(alloc, c, kind, &state, &share, &long)?;
-    check_stage(rt, stage, Stage::Combine);
+    for other in other_lengths(alloc, &theirs)? {
+        let stage = stage_after(alloc, c, kind, &state, &share, &other)?;
+        check_stage(rt, stage, Stage::Combine);
+        let stage = stage_after(alloc, c, kind, &state, &other, &theirs)?;
+        check_stage(rt, stage, Stage::Combine);
+    }
     let spelled = hex::decode(alloc, modulus)?;
-    let large = begun_with(alloc, &spelled, &other)?;
-    let stage = stage_after(alloc, c, kind, &state, &share, &large)?;
-    check_stage(rt, stage, Stage::Combine);
+    let elements = share.len().saturating_sub(joint_len(&report.public));
+    for place in (0..elements).step_by(spelled.len().max(1)) {
+        let large = with_bytes(alloc, &theirs, place, &spelled)?;
+        let stage = stage_after(alloc, c, kind, &state, &share, &large)?;
+        check_stage(rt, stage, Stage::Combine);
+        let large = with_bytes(alloc, &share, place, &spelled)?;
+        let stage = stage_after(alloc, c, kind, &state, &large, &theirs)?;
+        check_stage(rt, stage, Stage::Combine);
+    }
     let message = hex::decode(alloc, steps.message)?;
-    let long = longer(alloc, &message)?;
-    assert!(rt; is_invalid(finish(alloc, &state, &long))?);
+    for other in other_lengths(alloc, &message)? {
+        if other.len() != message.len() {
+            assert!(rt; is_invalid(finish(alloc, &state, &other))?);
+        }
+    }
+    for place in 0..message.len() {
+        let other = flipped(alloc, &message, place)?;
+        assert!(rt; is_invalid(finish(alloc, &state, &other))?);
+    }
     Ok(())
 }
 
@@ -296,9 +326,65 @@ pub(super) fn check_other_part<C: Circuit>(
         &report.public,
         &report.leader,
     )?;
-    let other = hex::decode(alloc, steps.helper_share)?;
-    let changed = flipped(alloc, &other, 63)?;
-    let stage = stage_after(alloc, c, kind, &state, &share, &changed)?;
-    check_stage(rt, stage, Stage::Finish);
+    let theirs = hex::decode(alloc, steps.helper_share)?;
+    for place in [48, 63] {
+        let changed = flipped(alloc, &theirs, place)?;
+        let stage = stage_after(alloc, c, kind, &state, &share, &changed)?;
+        check_stage(rt, stage, Stage::Finish);
+        let changed = flipped(alloc, &share, place)?;
+        let stage = stage_after(alloc, c, kind, &state, &changed, &theirs)?;
+        check_stage(rt, stage, Stage::Finish);
+    }
+    Ok(())
+}
+
+/// Another half of the input, whose own part stands in the public share, is refused by the decision.
+pub(super) fn check_forged<C: Circuit>(
+    rt: &impl Abort,
+    alloc: Global,
+    c: &C,
+    kind: u8,
+    steps: &Steps,
+) -> Result<(), Fail> {
+    let report = report_of(alloc, steps)?;
+    let leader = flipped(alloc, &report.leader, 0)?;
+    let (_, share) = init(
+        alloc,
+        c,
+        kind,
+        Role::Leader,
+        &KEY,
+        &ID,
+        &report.public,
+        &leader,
+    )?;
+    let mut part = Vec::new(alloc);
+    for byte in share.iter().skip(share.len().saturating_sub(16)) {
+        part.push(*byte)?;
+    }
+    let public = with_bytes(alloc, &report.public, 0, &part)?;
+    let stage = stage_of(alloc, c, kind, &public, &leader, &report.helper)?;
+    check_stage(rt, stage, Stage::Combine);
+    Ok(())
+}
+
+/// A report of an input of these numbers, whether or not it is an encoding, is refused at this stage.
+pub(super) fn check_input<C: Circuit>(
+    rt: &impl Abort,
+    alloc: Global,
+    c: &C,
+    kind: u8,
+    numbers: &[u128],
+    wanted: Stage,
+) -> Result<(), Fail> {
+    let mut x = Vec::new(alloc);
+    for number in numbers {
+        x.push(C::F::of(*number))?;
+    }
+    assert_eq!(rt; x.len(), c.input_len());
+    let shares = shard_input(alloc, c, kind, &ID, &x, &KEY)?;
+    let (leader, helper) = (shares.leader.as_slice(), shares.helper.as_slice());
+    let stage = stage_of(alloc, c, kind, shares.public.as_slice(), leader, helper)?;
+    check_stage(rt, stage, wanted);
     Ok(())
 }
