@@ -1,0 +1,4 @@
+pub mod Heads
+pub mod PairCounts
+pub mod PairReads
+pub mod Parts
