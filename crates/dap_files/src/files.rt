@@ -2,6 +2,7 @@
 
 ghost use Rattle.std.specs.Prelude.{◌≡◌, ◌<◌, ◌≤◌, ℕ, None, length, take, IfOk, IfSome};
 ghost use Rattle.dap_files.specs.Taken.{TakesIn};
+ghost use Rattle.dap_outside.specs.declared.files.TheConstants.{MAX_READ};
 
 use dap_outside::{FileFault, MAX_READ};
 use std::alloc::Global;
@@ -25,7 +26,7 @@ impl<'a, R: Files> DirFiles<'a, R> {
     }
 
     fn read_front(&self, alloc: Global, name: &str) -> Result<Vec<u8>, FileFault>
-        ensures { IfOk result (λ read. length read.items ≤ 1048577) }
+        ensures { IfOk result (λ read. length read.items ≤ MAX_READ) }
     {
         let mut file = fs::open(self.runtime, name).map_err(|_| FileFault::Failed)?;
         read_front(alloc, &mut file)
@@ -44,10 +45,10 @@ fn read_more<F: Read>(file: &mut F, buf: &mut [u8], bytes: &mut Vec<u8>) -> Resu
     Ok(count)
 }
 
-/// The first 1,048,577 bytes of a reader, or all where there are fewer.
+/// The first `MAX_READ` bytes of a reader, or all where there are fewer.
 pub(crate) fn read_front<F: Read>(alloc: Global, file: &mut F) -> Result<Vec<u8>, FileFault>
-    ensures bytes { IfOk result (λ read. IfSome (F.remaining file.old) (λ left. read.items ≡ take 1048577 left)) }
-    ensures size { IfOk result (λ read. length read.items ≤ 1048577) }
+    ensures bytes { IfOk result (λ read. IfSome (F.remaining file.old) (λ left. read.items ≡ take MAX_READ left)) }
+    ensures size { IfOk result (λ read. length read.items ≤ MAX_READ) }
 {
     let mut bytes = Vec::new(alloc);
     let mut buf = [0; 4096];

@@ -1,8 +1,8 @@
 -- Files in memory, by their names.
-use Rattle.std.specs.Prelude.{ℕ, List, [], ◌∷◌, Bool, Option, Some, None, if◌then◌else◌, String, Vec, string_bytes}
+use Rattle.std.specs.Prelude.{ℕ, ◌+◌, List, [], ◌∷◌, Bool, Option, Some, None, if◌then◌else◌, String, Vec, string_bytes}
 use Rattle.std.specs.Str.{bytes_eq}
 use Rattle.std.specs.declared.alloc.Global.{Global}
-use Rattle.dap_outside.specs.Plan.{fails_next, calls_after}
+use Rattle.dap_outside.specs.Plan.{failed_calls, fails_next, calls_after}
 use Rattle.dap_outside.specs.declared.files.MemFiles.{MemFiles}
 
 -- what the first file of a name holds, if there is one
@@ -21,6 +21,10 @@ files_read f = f.plan.calls
 -- how often a file was asked for that isn't there
 abbrev pub files_missed : MemFiles → ℕ
 files_missed f = f.missed
+
+-- how often a reading has failed
+abbrev pub faults_of : MemFiles → ℕ
+faults_of f = failed_calls f.plan + f.missed
 
 -- the next reading is one of those that fail
 abbrev pub reading_fails : MemFiles → Bool

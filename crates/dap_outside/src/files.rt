@@ -1,11 +1,12 @@
 //! Files that are read whole, by their names.
 
 ghost use Rattle.std.specs.Prelude.{◌≡◌, ◌≤◌, ◌+◌, ◌⊎◌, ◌↔◌, List, ℕ, Option, Some, None, false, take, length, IfOk, IfSome, IsErrOf, IsOk, IsTrue, MatchOption, ◌≢◌};
-ghost use Rattle.dap_bytes.specs.Causes.{Rose};
+ghost use Rattle.dap_bytes.specs.Causes.{Counts};
 ghost use Rattle.dap_outside.specs.Plan.{failed_calls, calls_after};
 ghost use Rattle.dap_outside.specs.Filed.{file_in};
 
 use crate::plan::Plan;
+use dap_bytes::LONGEST_TASK_FILE;
 use std::alloc::Global;
 
 /// Why a file wasn't read.
@@ -18,7 +19,7 @@ pub enum FileFault {
 }
 
 /// How many bytes of a file are read at most: one more than any file that is wanted may have, so that a longer one shows.
-pub const MAX_READ: usize = 1_048_577;
+pub const MAX_READ: usize = LONGEST_TASK_FILE + 1;
 
 /// Files, as those of a directory.
 pub trait Files {
@@ -28,16 +29,13 @@ pub trait Files {
     /// How often a reading has failed. It never falls.
     ghost faults: { Self → ℕ };
 
-    /// The first 1,048,577 bytes of the file of this name, or all where it is shorter.
+    /// The first `MAX_READ` bytes of the file of this name, or all where it is shorter.
     /// It fails only where the faults rose by one, as for a file that isn't there, and else they stay. No file changes.
     fn read_file(&mut self, alloc: Global, name: &str) -> Result<Vec<u8>, FileFault>
-        ensures bytes { IfOk result (λ read. IfSome (contents self.old name.now) (λ bytes. read.items ≡ take 1048577 bytes)) }
-        ensures size { IfOk result (λ read. length read.items ≤ 1048577) }
+        ensures bytes { IfOk result (λ read. IfSome (contents self.old name.now) (λ bytes. read.items ≡ take MAX_READ bytes)) }
+        ensures size { IfOk result (λ read. length read.items ≤ MAX_READ) }
         ensures kept { (file : List ℕ) → contents self.new file ≡ contents self.old file }
-        ensures later { faults self.old ≤ faults self.new }
-        ensures failed { IsErrOf result FileFault.Failed → Rose (faults self.old) (faults self.new) }
-        ensures calm { IsErrOf result FileFault.Failed ⊎ (faults self.new ≡ faults self.old) }
-        ensures one { faults self.new ≤ faults self.old + 1 };
+        ensures faults { Counts (IsErrOf result FileFault.Failed) (faults self.old) (faults self.new) };
 }
 
 /// Files in memory, by name; of two of one name the first counts. Readings fail at the calls that are listed, counted
@@ -82,27 +80,24 @@ fn find<'a>(files: &'a [(String, Vec<u8>)], name: &str) -> Option<&'a [u8]>
 
 /// The first bytes that are read of a file.
 fn front(bytes: &[u8]) -> &[u8]
-    ensures front { result.now ≡ take 1048577 bytes.now }
-    ensures size { length result.now ≤ 1048577 }
+    ensures front { result.now ≡ take MAX_READ bytes.now }
+    ensures size { length result.now ≤ MAX_READ }
 {
     &bytes[..MAX_READ.min(bytes.len())]
 }
 
 impl Files for MemFiles {
-    ghost use Rattle.dap_outside.specs.Filed.{file_of, files_read, files_missed, missed_after, reading_fails};
+    ghost use Rattle.dap_outside.specs.Filed.{file_of, faults_of, files_read, files_missed, missed_after, reading_fails};
 
     ghost contents = { λ f name. file_of f name };
 
-    ghost faults = { λ f. failed_calls f.plan + f.missed };
+    ghost faults = { λ f. faults_of f };
 
     fn read_file(&mut self, alloc: Global, name: &str) -> Result<Vec<u8>, FileFault>
-        ensures bytes { IfOk result (λ read. IfSome (file_of self.old name.now) (λ bytes. read.items ≡ take 1048577 bytes)) }
-        ensures size { IfOk result (λ read. length read.items ≤ 1048577) }
+        ensures bytes { IfOk result (λ read. IfSome (file_of self.old name.now) (λ bytes. read.items ≡ take MAX_READ bytes)) }
+        ensures size { IfOk result (λ read. length read.items ≤ MAX_READ) }
         ensures kept { (file : List ℕ) → file_of self.new file ≡ file_of self.old file }
-        ensures later { failed_calls self.old.plan + self.old.missed ≤ failed_calls self.new.plan + self.new.missed }
-        ensures failed { IsErrOf result FileFault.Failed → Rose (failed_calls self.old.plan + self.old.missed) (failed_calls self.new.plan + self.new.missed) }
-        ensures calm { IsErrOf result FileFault.Failed ⊎ (failed_calls self.new.plan + self.new.missed ≡ failed_calls self.old.plan + self.old.missed) }
-        ensures one { failed_calls self.new.plan + self.new.missed ≤ failed_calls self.old.plan + self.old.missed + 1 }
+        ensures faults { Counts (IsErrOf result FileFault.Failed) (faults_of self.old) (faults_of self.new) }
 
         // It fails exactly at the listed calls and where there is no such file. Without memory nothing changes.
         ensures fails { IsErrOf result FileFault.Failed → IsTrue (reading_fails self.old) ⊎ (file_of self.old name.now ≡ None) }

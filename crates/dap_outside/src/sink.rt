@@ -3,7 +3,7 @@
 ghost use Rattle.std.specs.Prelude.{◌≡◌, ◌≤◌, ◌<◌, ◌+◌, ◌⊎◌, false, List, ℕ, [], length, Option, Some, IfOk, IsOk, IsErrOf, IsTrue};
 ghost use Rattle.std.specs.Io.{WritesAtMost};
 ghost use Rattle.std.specs.Io.KnownBytes.{WriteAppends};
-ghost use Rattle.dap_bytes.specs.Causes.{Rose};
+ghost use Rattle.dap_bytes.specs.Causes.{Counts};
 ghost use Rattle.dap_outside.specs.Plan.{failed_calls, calls_after};
 
 use crate::plan::Plan;
@@ -32,10 +32,7 @@ pub trait Sink {
         ensures bound { WritesAtMost result bytes.now }
         ensures some { 0 < length bytes.now → IfOk result (λ n. 0 < n) }
         ensures bytes { WriteAppends (held self.old) (held self.new) result bytes.now }
-        ensures later { faults self.old ≤ faults self.new }
-        ensures failed { IsErrOf result SinkFault.Failed → Rose (faults self.old) (faults self.new) }
-        ensures calm { IsErrOf result SinkFault.Failed ⊎ (faults self.new ≡ faults self.old) }
-        ensures one { faults self.new ≤ faults self.old + 1 };
+        ensures faults { Counts (IsErrOf result SinkFault.Failed) (faults self.old) (faults self.new) };
 }
 
 /// Keeps what is written in memory. Its writes fail at the calls that are listed, counted from 1.
@@ -79,10 +76,7 @@ impl Sink for MemSink {
         ensures bound { WritesAtMost result bytes.now }
         ensures some { 0 < length bytes.now → IfOk result (λ n. 0 < n) }
         ensures bytes { WriteAppends (Some (bytes_held self.old)) (Some (bytes_held self.new)) result bytes.now }
-        ensures later { failed_calls self.old.plan ≤ failed_calls self.new.plan }
-        ensures failed { IsErrOf result SinkFault.Failed → Rose (failed_calls self.old.plan) (failed_calls self.new.plan) }
-        ensures calm { IsErrOf result SinkFault.Failed ⊎ (failed_calls self.new.plan ≡ failed_calls self.old.plan) }
-        ensures one { failed_calls self.new.plan ≤ failed_calls self.old.plan + 1 }
+        ensures faults { Counts (IsErrOf result SinkFault.Failed) (failed_calls self.old.plan) (failed_calls self.new.plan) }
 
         // It fails at the listed calls alone, and else takes all. Without memory nothing changes.
         ensures fails { IsErrOf result SinkFault.Failed → IsTrue (write_fails self.old) }

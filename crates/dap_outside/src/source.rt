@@ -1,9 +1,9 @@
 //! Where bytes come from.
 
-ghost use Rattle.std.specs.Prelude.{◌≡◌, ◌≤◌, ◌+◌, ◌↔◌, List, ℕ, Option, Some, drop, length, min, take, IsErr, IsTrue, IfOk, OnErr, OnOk};
+ghost use Rattle.std.specs.Prelude.{◌≡◌, ◌≤◌, ◌+◌, ◌↔◌, List, ℕ, Option, Some, drop, length, min, take, IsErr, IsTrue, IfOk, OnErr};
 ghost use Rattle.std.specs.Io.{ReadsAtMost};
 ghost use Rattle.std.specs.Io.KnownBytes.{ReadConsumes};
-ghost use Rattle.dap_bytes.specs.Causes.{HasCause};
+ghost use Rattle.dap_bytes.specs.Causes.{Counts};
 ghost use Rattle.dap_outside.specs.Plan.{failed_calls, calls_after};
 
 use crate::plan::Plan;
@@ -26,9 +26,7 @@ pub trait Source {
     fn read(&mut self, buf: &mut [u8]) -> Result<usize, Failed>
         ensures bound { ReadsAtMost result buf.new }
         ensures bytes { ReadConsumes (left self.old) (left self.new) result buf.new }
-        ensures cause { HasCause (faults self.old) (faults self.new) result }
-        ensures calm { OnOk result (faults self.new ≡ faults self.old) }
-        ensures one { faults self.new ≤ faults self.old + 1 };
+        ensures faults { Counts (IsErr result) (faults self.old) (faults self.new) };
 }
 
 /// Copies as many bytes as there are and as there is room for, and says how many.
@@ -77,9 +75,7 @@ impl Source for MemSource {
     fn read(&mut self, buf: &mut [u8]) -> Result<usize, Failed>
         ensures bound { ReadsAtMost result buf.new }
         ensures bytes { ReadConsumes (Some (bytes_left self.old)) (Some (bytes_left self.new)) result buf.new }
-        ensures cause { HasCause (failed_calls self.old.plan) (failed_calls self.new.plan) result }
-        ensures calm { OnOk result (failed_calls self.new.plan ≡ failed_calls self.old.plan) }
-        ensures one { failed_calls self.new.plan ≤ failed_calls self.old.plan + 1 }
+        ensures faults { Counts (IsErr result) (failed_calls self.old.plan) (failed_calls self.new.plan) }
 
         // It fails exactly at the listed calls, where it leaves the buffer, and else fills it as far as bytes are left.
         ensures untouched { OnErr result (buf.new ≡ buf.old) }

@@ -1,5 +1,6 @@
 use Rattle.std.proofs.Common.{◌≡◌, ◌-◌, length}
 use Rattle.std.specs.Io.KnownBytes.{Consumes}
+use Rattle.dap_outside.specs.declared.files.TheConstants.{MAX_READ}
 use Rattle.dap_files.proofs.files.read_front.Given as goal
 
 abbrev pub invariant-loop-buf : goal.invariant-loop-buf
@@ -10,4 +11,4 @@ invariant-loop-buf g l = record {
 
 -- what is left up to the limit
 abbrev pub decreases-loop-buf : goal.decreases-loop-buf
-decreases-loop-buf g l = 1048577 - length l.bytes.items
+decreases-loop-buf g l = MAX_READ - length l.bytes.items
