@@ -1,4 +1,5 @@
 pub mod Causes
 pub mod Cursor
 pub mod Name
+pub mod NameLaws
 pub mod Shown

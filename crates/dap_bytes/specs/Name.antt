@@ -1,8 +1,6 @@
 -- Names of tasks.
 use Rattle.std.specs.Prelude.{◌≡◌, ℕ, ◌-◌, ◌≤◌, ◌++◌, List, length, take, replicate, Bool, true, ◌&&◌, ◌||◌, nat_le, nat_eq, if◌then◌else◌, Option, Some, None}
 use Rattle.std.specs.List.{list_all}
-use Rattle.std.proofs.Common.{sym}
-use Rattle.std.proofs.lemmas.List.{length-take-le}
 
 -- `a` to `z`, `0` to `9`, `_`, `-`
 abbrev pub is_name_char : ℕ → Bool
@@ -25,11 +23,3 @@ pub record IsFilled (cells : List ℕ) (used : ℕ) : Type 0 where
   pub within : used ≤ length cells
   pub padded : cells ≡ take used cells ++ replicate (32 - used) 0
   pub spelled : IsName (take used cells)
-
--- how many cells are used, by the name in them
-pub used_again : {cells : List ℕ} {used : ℕ} → IsFilled cells used → length (take used cells) ≡ used
-used_again {cells} {used} h = length-take-le used cells h.within
-
--- the cells, by the name in them
-pub cells_again : {cells : List ℕ} {used : ℕ} → IsFilled cells used → take used cells ++ replicate (32 - length (take used cells)) 0 ≡ cells
-cells_again {cells} {used} h = rw (used_again h) (sym h.padded)

@@ -21,7 +21,8 @@ pub struct Name {
 
 impl Model for Name {
     ghost use Rattle.std.specs.Prelude.{List, ℕ, length, take, ◌++◌, ◌-◌, replicate};
-    ghost use Rattle.dap_bytes.specs.Name.{IsFilled, cells_again, used_again};
+    ghost use Rattle.dap_bytes.specs.Name.{IsFilled};
+    ghost use Rattle.dap_bytes.specs.NameLaws.{cells_again, used_again};
 
     ghost Value = { List ℕ };
 

@@ -13,7 +13,7 @@ use Rattle.vdaf_api.specs.Functions.{Functions, Parts}
 use Rattle.vdaf_api.specs.Promises.{FunctionLaws, PartsAreShort}
 use Rattle.vdaf_api.specs.Verdict.{Opened, opened, helper_share, helper_step, verdict, numbers_of}
 use Rattle.dap_seal.specs.Sealed.{opened_by}
-use Rattle.dap_seal.specs.Undone.{length-sealed_by, opened_by-sealed_by}
+use Rattle.dap_seal.specs.SealLaws.{length-sealed_by, opened_by-sealed_by}
 use Rattle.dap_seal.specs.Reports.{head_of, head_with, opened_report, helper_step_of, content_numbers_of, report_of, honest_report}
 
 -- the helper's step looks at its own half alone

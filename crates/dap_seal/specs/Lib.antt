@@ -1,5 +1,5 @@
 pub mod Answered
 pub mod Sealed
-pub mod Undone
+pub mod SealLaws
 pub mod Reports
 pub mod Rules

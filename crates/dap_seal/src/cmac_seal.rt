@@ -2,7 +2,7 @@
 
 ghost use Rattle.std.specs.Prelude.{◌≡◌};
 ghost use Rattle.dap_seal.specs.Sealed.{opened_by, sealed_by};
-ghost use Rattle.dap_seal.specs.Undone.{opened_by-sealed_by};
+ghost use Rattle.dap_seal.specs.SealLaws.{opened_by-sealed_by};
 
 use crate::cover::covered;
 use crate::head::Head;

@@ -2,7 +2,7 @@
 ghost use Rattle.std.specs.Prelude.{◌≡◌, ◌+◌, ◌<◌, ◌^◌, take, drop, List, ℕ, IsTrue};
 ghost use Rattle.dap_disk.specs.Disk.{of_told, Tells, Only};
 ghost use Rattle.journal_checkpoint.specs.Heads.{generation_of, start_of, front_of, IsOlder};
-ghost use Rattle.journal_checkpoint.specs.Members.{reads_of, held_stays, part_fits};
+ghost use Rattle.journal_checkpoint.specs.MemberLaws.{reads_of, held_stays, part_fits};
 ghost use Rattle.journal_checkpoint.specs.Pair.{Reads, MovesLive};
 
 use dap_disk::{Dead, Disk, Down, StoreFault};

@@ -1,5 +1,5 @@
 use Rattle.std.proofs.Common.{length, ap, arith}
-use Rattle.dap_seal.specs.Undone.{length-stream}
+use Rattle.dap_seal.specs.SealLaws.{length-stream}
 use Rattle.dap_seal.proofs.cover.covered.Goals as goal
 
 pub differences-requires : goal.differences-requires
