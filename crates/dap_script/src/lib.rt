@@ -18,6 +18,7 @@ mod script;
 
 pub use count::is_longer;
 pub use fault::ScriptFault;
+pub use fields::{number, small};
 pub use laws::{lines_are_spelled, refusals_name_the_first_line, scripts_are_spelled};
 pub use line::Line;
 pub use print::print_task;
