@@ -2,7 +2,7 @@
 use Rattle.std.proofs.Common.{◌≡◌, ◌⊎◌, ℕ, ◌%◌, ◌≤◌, List, [], ◌∷◌, length, suc, filter_map, Some, refl, ap, ◌∙◌, inl, inr, arith}
 use Rattle.std.specs.List.{cons_option}
 use Rattle.vdaf_api.specs.Functions.{Functions}
-use Rattle.vdaf_api.specs.Laws.{FunctionLaws}
+use Rattle.vdaf_api.specs.Promises.{FunctionLaws}
 use Rattle.vdaf_api.specs.Totals.{total_numbers}
 use Rattle.vdaf_api.specs.declared.kind.Kind.{Kind}
 use Rattle.dap_messages.specs.declared.report.Report.{Report}
