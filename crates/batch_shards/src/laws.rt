@@ -26,7 +26,7 @@ pub fn a_bucket_is_that_of_its_reports<V: Vdaf>(vdaf: &V)
     ensures added { (reports : List Report) (rejected : ℕ) (closed : Bool) (r : Report)
         → AreOuts (V.functions vdaf.now).space reports → IsOut (V.functions vdaf.now).space r.out
         → with_report (V.functions vdaf.now).space r.id r.out
-            (tally (V.functions vdaf.now).space reports rejected closed)
+        (tally (V.functions vdaf.now).space reports rejected closed)
         ≡ tally (V.functions vdaf.now).space (reports ++ r ∷ []) rejected closed }
     ensures rejected { (reports : List Report) (rejected : ℕ) (closed : Bool)
         → with_rejected (tally (V.functions vdaf.now).space reports rejected closed)
