@@ -8,9 +8,9 @@ use Rattle.dap_model.specs.Limits.{Passed, passed_in}
 use Rattle.dap_program.proofs.LineLemmas.{full_line_is, lines_read, stopped}
 use Rattle.dap_program.specs.Headline.{IsNotYet, IsPassed, IsScriptRefused, IsStop, Outcome, check_outcome, given_tasks, lines_outcome, outcome_of, run_limits, run_outcome, script_outcome, status_of}
 use Rattle.dap_program.specs.Lines.{lines_run}
-use Rattle.dap_program.specs.Runs.{Ends}
-use Rattle.dap_program.specs.Words.{PlainCommand, heard}
-use Rattle.dap_program.specs.Work.{Work, Scripted, Checked, IfTold, work_of}
+use Rattle.dap_program.specs.Runs.{Ends, status_after}
+use Rattle.dap_program.specs.Words.{PlainCommand, command_of}
+use Rattle.dap_program.specs.Work.{Work, Scripted, Checked, Loaded, Helped, Versioned, IfTold, work_of}
 use Rattle.dap_program.specs.declared.status.Status.{Status}
 use Rattle.dap_program.specs.declared.status.Status.TheVariants.{Done, TasksRefused, ScriptRefused, NotYet, ReadFault, WriteFault, Limit, NoMemory}
 
@@ -54,6 +54,9 @@ check_ways (Err refusal) status h done refused = refused refusal.task refusal.fi
 
 refused_said : (work : Work) (line : ℕ) → status_of work ≡ ScriptRefused line → IsScriptRefused work line
 refused_said (Checked file) line h = check_ways (tasks_of file) (ScriptRefused line) h (λ e. cc e) (λ task field e. cc e)
+refused_said (Loaded reports seed) line h = cc h
+refused_said Helped line h = cc h
+refused_said Versioned line h = cc h
 refused_said (Scripted file script) line h = script_ways file script (ScriptRefused line) h (record {
   tasks = λ task field e. cc e;
   lines = λ given t l. stopped given script (ScriptRefused line) l (record {
@@ -69,6 +72,9 @@ refused_said (Scripted file script) line h = script_ways file script (ScriptRefu
 
 not_yet_said : (work : Work) (line : ℕ) → status_of work ≡ NotYet line → IsNotYet work line
 not_yet_said (Checked file) line h = check_ways (tasks_of file) (NotYet line) h (λ e. cc e) (λ task field e. cc e)
+not_yet_said (Loaded reports seed) line h = cc h
+not_yet_said Helped line h = cc h
+not_yet_said Versioned line h = cc h
 not_yet_said (Scripted file script) line h = script_ways file script (NotYet line) h (record {
   tasks = λ task field e. cc e;
   lines = λ given t l. stopped given script (NotYet line) l (record {
@@ -89,6 +95,9 @@ passed_same p line limit a b =
 
 limit_said : (work : Work) (line limit : ℕ) → status_of work ≡ Limit line limit → IsPassed work line limit
 limit_said (Checked file) line limit h = check_ways (tasks_of file) (Limit line limit) h (λ e. cc e) (λ task field e. cc e)
+limit_said (Loaded reports seed) line limit h = cc h
+limit_said Helped line limit h = cc h
+limit_said Versioned line limit h = cc h
 limit_said (Scripted file script) line limit h = script_ways file script (Limit line limit) h (record {
   tasks = λ task field e. cc e;
   lines = λ given t l. stopped given script (Limit line limit) l (record {
@@ -112,7 +121,7 @@ limit_said (Scripted file script) line limit h = script_ways file script (Limit 
 
 -- what holds of the work that a command has holds of the one that its words have
 pub told : (words : List (List ℕ)) (command : PlainCommand) (left : Option (List ℕ)) (contents : List ℕ → Option (List ℕ)) (P Q : Work → Type 0)
-    → Ok command ≡ heard words → IfSome (work_of command left contents) P → ((work : Work) → P work → Q work) → IfTold words left contents Q
+    → Ok command ≡ command_of words → IfSome (work_of command left contents) P → ((work : Work) → P work → Q work) → IfTold words left contents Q
 told words command left contents P Q e h go =
     subst (λ r. IfOk r (λ c. IfSome (work_of c left contents) Q)) e (weaker (work_of command left contents) h)
   where
@@ -162,3 +171,8 @@ unless_faults status old new outcome e read write = by_exact e.exact
     by_exact (inl (inr (inl w))) = absurd (write w)
     by_exact (inl (inr (inr m))) = inl m
     by_exact (inr is) = inr is
+
+-- a status that isn't Done is that of an answer
+pub answered_by : (result : Result (Unit {0}) Status) (status : Status) → (Done ≡ status → ⊥) → status_after result ≡ status → result ≡ Err status
+answered_by (Ok done) status other h = absurd (other h)
+answered_by (Err s) status other h = ap Err h

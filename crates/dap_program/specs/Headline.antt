@@ -12,9 +12,11 @@ use Rattle.dap_script.specs.declared.line.Line.TheVariants.{Task}
 use Rattle.dap_model.specs.Limits.{Passed, passed_in, text_before}
 use Rattle.dap_model.specs.Run.{model_text}
 use Rattle.dap_model.specs.declared.limits.Limits.{Limits}
+use Rattle.load_maker.specs.Load.{load_text}
 use Rattle.dap_program.specs.Lines.{IsFull, later_line_of, lines_run, names_of}
 use Rattle.dap_program.specs.Transfer.{AppendsPart}
-use Rattle.dap_program.specs.Work.{Work, Scripted, Checked}
+use Rattle.dap_program.specs.Work.{Work, Scripted, Checked, Loaded, Helped, Versioned}
+use Rattle.dap_program.specs.declared.help.TheConstants.{HELP, VERSION}
 use Rattle.dap_program.specs.declared.status.Status.{Status}
 use Rattle.dap_program.specs.declared.status.Status.TheVariants.{Done, Usage, TasksRefused, ScriptRefused, NotYet, ReadFault, WriteFault, Limit, NoMemory}
 
@@ -60,12 +62,21 @@ abbrev pub check_outcome : Result (List PlainTask) Refusal → Outcome
 check_outcome (Ok tasks) = record { status = Done; text = flat_map task_line tasks }
 check_outcome (Err refusal) = record { status = TasksRefused refusal.task refusal.field; text = [] }
 
+-- ---- a text
+
+-- a text that is printed whole
+abbrev pub printing : List ℕ → Outcome
+printing text = record { status = Done; text = text }
+
 -- ---- each work
 
 -- how a work ends
 abbrev pub outcome_of : Work → Outcome
 outcome_of (Scripted file script) = script_outcome (given_tasks file) script
 outcome_of (Checked file) = check_outcome (tasks_of file)
+outcome_of (Loaded reports seed) = printing (load_text reports seed)
+outcome_of Helped = printing HELP.now
+outcome_of Versioned = printing VERSION.now
 
 -- what a work comes to, where nothing fails
 abbrev pub status_of : Work → Status
@@ -86,6 +97,9 @@ abbrev pub IsScriptRefused : Work → ℕ → Type 0
 IsScriptRefused (Scripted file script) line =
     (given : List PlainTask) × (given_tasks file ≡ Ok given) × (script_beside (names_of given) script ≡ Err line)
 IsScriptRefused (Checked file) line = ⊥
+IsScriptRefused (Loaded reports seed) line = ⊥
+IsScriptRefused Helped line = ⊥
+IsScriptRefused Versioned line = ⊥
 
 -- the file and the script read: the tasks of the one, and the lines of the other
 pub record Reads (file : Option (List ℕ)) (script : List ℕ) : Type 0 where
@@ -98,6 +112,9 @@ pub record Reads (file : Option (List ℕ)) (script : List ℕ) : Type 0 where
 abbrev pub IsNotYet : Work → ℕ → Type 0
 IsNotYet (Scripted file script) n = (r : Reads file script) × (later_line_of r.lines ≡ Some n)
 IsNotYet (Checked file) n = ⊥
+IsNotYet (Loaded reports seed) n = ⊥
+IsNotYet Helped n = ⊥
+IsNotYet Versioned n = ⊥
 
 -- Limit 5: the script has too many bytes, and no line is named.
 abbrev pub HasTooManyBytes : List ℕ → ℕ → ℕ → Type 0
@@ -122,6 +139,9 @@ IsPassed (Scripted file script) line limit =
     HasTooManyBytes script line limit ⊎ HasTooManyLines script line limit
     ⊎ ((r : Reads file script) × (HasTooManyTasks file script r line limit ⊎ OffersTooMuch file script r line limit))
 IsPassed (Checked file) line limit = ⊥
+IsPassed (Loaded reports seed) line limit = ⊥
+IsPassed Helped line limit = ⊥
+IsPassed Versioned line limit = ⊥
 
 -- ---- how a call ends
 

@@ -49,6 +49,10 @@ IsScriptStop (Usage word) = ⊥
 IsScriptStop (TasksRefused task field) = ⊥
 IsScriptStop ReadFault = ⊥
 
+-- what the printing of a text may be stopped by
+abbrev pub IsPrintStop : Status → Type 0
+IsPrintStop status = (status ≡ WriteFault) ⊎ (status ≡ NoMemory)
+
 -- what a check may be stopped by
 abbrev pub IsCheckStop : Status → Type 0
 IsCheckStop (TasksRefused task field) = Unit {0}

@@ -1,5 +1,5 @@
 -- Which status an error becomes, and the number and the text of a status.
-use Rattle.std.specs.Prelude.{ℕ, List, ◌++◌, codes}
+use Rattle.std.specs.Prelude.{ℕ, List, [], ◌∷◌, ◌++◌, codes, nat_eq, if◌then◌else◌}
 use Rattle.std.specs.Fmt.{decimal}
 use Rattle.dap_outside.specs.declared.files.FileFault.{FileFault}
 use Rattle.dap_outside.specs.declared.files.FileFault.TheVariants as file
@@ -55,3 +55,7 @@ text_of ReadFault = codes "read fault"
 text_of WriteFault = codes "write fault"
 text_of (Limit line limit) = codes "limit " ++ decimal limit ++ codes " at line " ++ decimal line
 text_of NoMemory = codes "no memory"
+
+-- what is told of a status on standard error: nothing where the process ends with 0, else its text in a line
+abbrev pub told_of : Status → List ℕ
+told_of status = if nat_eq (number_of status) 0 then [] else codes "dap: " ++ text_of status ++ 10 ∷ []

@@ -2,7 +2,7 @@
 
 ghost use Rattle.std.specs.Prelude.{◌≡◌, ◌⊎◌, ◌≤◌, ℕ, List, IfOk, IfErr, IfSome, IsErrOf};
 ghost use Rattle.std.specs.List.{flat_map};
-ghost use Rattle.dap_bytes.specs.Causes.{Rose};
+ghost use Rattle.dap_bytes.specs.Causes.{Counts};
 ghost use Rattle.dap_tasks.specs.File.{tasks_of};
 ghost use Rattle.dap_program.specs.Headline.{IsSilent, IsTasksRefused, check_outcome, task_line};
 ghost use Rattle.dap_program.specs.Runs.{Ends, IsCheckStop, status_after};
@@ -40,16 +40,13 @@ pub fn check<F: Files, K: Sink>(
     files: &mut F,
     out: &mut K,
 ) -> Result<(), Status>
-    ensures ends { IfSome (F.contents files.old name.now) (λ file. Ends (status_after result) (K.held out.old) (K.held out.new) (check_outcome (tasks_of file))) }
+    ensures ends { IfSome (F.contents files.old name.now)
+        (λ file. Ends (status_after result) (K.held out.old) (K.held out.new) (check_outcome (tasks_of file))) }
     ensures refused { (task : ℕ) (field : List ℕ) → IsErrOf result (Status.TasksRefused task field)
         → IfSome (F.contents files.old name.now) (λ file. IsTasksRefused file task field) }
     ensures silent { IfErr result (λ status. IsSilent status → K.held out.new ≡ K.held out.old) }
-    ensures read { IsErrOf result Status.ReadFault → Rose (F.faults files.old) (F.faults files.new) }
-    ensures write { IsErrOf result Status.WriteFault → Rose (K.faults out.old) (K.faults out.new) }
-    ensures calm { IsErrOf result Status.ReadFault ⊎ (F.faults files.new ≡ F.faults files.old) }
-    ensures calm_sink { IsErrOf result Status.WriteFault ⊎ (K.faults out.new ≡ K.faults out.old) }
-    ensures reads { F.faults files.old ≤ F.faults files.new }
-    ensures writes { K.faults out.old ≤ K.faults out.new }
+    ensures reads { Counts (IsErrOf result Status.ReadFault) (F.faults files.old) (F.faults files.new) }
+    ensures writes { Counts (IsErrOf result Status.WriteFault) (K.faults out.old) (K.faults out.new) }
     ensures kept { (file : List ℕ) → F.contents files.new file ≡ F.contents files.old file }
     ensures only { IfErr result IsCheckStop }
 {

@@ -1,7 +1,7 @@
 //! The tasks of a task file.
 
 ghost use Rattle.std.specs.Prelude.{◌≡◌, ◌⊎◌, ◌≤◌, ℕ, List, IfOk, IfErr, IfSome, IsErrOf};
-ghost use Rattle.dap_bytes.specs.Causes.{Rose};
+ghost use Rattle.dap_bytes.specs.Causes.{Counts};
 ghost use Rattle.dap_tasks.specs.File.{tasks_of};
 ghost use Rattle.dap_tasks.specs.Tasks.{AreDistinct};
 ghost use Rattle.dap_program.specs.Runs.{Gives, IsFileStop};
@@ -18,9 +18,7 @@ pub fn file_tasks<F: Files>(alloc: Global, name: &str, files: &mut F) -> Result<
 
     // Nothing but a fault of the files, a refusal and want of memory stops it, and no file changes.
     ensures only { IfErr result IsFileStop }
-    ensures fault { IsErrOf result Status.ReadFault → Rose (F.faults files.old) (F.faults files.new) }
-    ensures calm { IsErrOf result Status.ReadFault ⊎ (F.faults files.new ≡ F.faults files.old) }
-    ensures later { F.faults files.old ≤ F.faults files.new }
+    ensures faults { Counts (IsErrOf result Status.ReadFault) (F.faults files.old) (F.faults files.new) }
     ensures kept { (file : List ℕ) → F.contents files.new file ≡ F.contents files.old file }
 {
     let bytes = files.read_file(alloc, name)?;

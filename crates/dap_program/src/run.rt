@@ -3,7 +3,7 @@
 ghost use Rattle.std.specs.Prelude.{◌≡◌, ◌≤◌, ◌<◌, ◌^◌, ◌⊎◌, ℕ, List, Option, None, length, IfOk, IfErr, IfSome, IsErrOf, OnOk};
 ghost use Rattle.std.specs.Io.KnownBytes.{IsAtEnd};
 ghost use Rattle.std.specs.Option.{option_map};
-ghost use Rattle.dap_bytes.specs.Causes.{Rose};
+ghost use Rattle.dap_bytes.specs.Causes.{Counts, CountsEither};
 ghost use Rattle.prio3_kinds.specs.Kinds.{functions_of_kind};
 ghost use Rattle.dap_tasks.specs.Tasks.{AreDistinct};
 ghost use Rattle.dap_script.specs.Spelling.{IsScriptBeside};
@@ -45,9 +45,7 @@ fn run_lines<K: Sink>(
     ensures ends { Ends (status_after result) (K.held out.old) (K.held out.new)
         (run_outcome given.items lines.now (passed_in functions_of_kind run_limits given.items lines.now)) }
     ensures only { IfErr result IsRunStop }
-    ensures fault { IsErrOf result Status.WriteFault → Rose (K.faults out.old) (K.faults out.new) }
-    ensures calm { IsErrOf result Status.WriteFault ⊎ (K.faults out.new ≡ K.faults out.old) }
-    ensures later { K.faults out.old ≤ K.faults out.new }
+    ensures faults { Counts (IsErrOf result Status.WriteFault) (K.faults out.old) (K.faults out.new) }
 {
     match printed_text::<Prio3>(alloc, &LIMITS, given, lines) {
         Ok(text) => {
@@ -71,12 +69,11 @@ fn run_script<K: Sink>(
 ) -> Result<(), Status>
     requires size { length script.now ≤ 67108864 }
     requires distinct { AreDistinct given.items }
-    ensures ends { Ends (status_after result) (K.held out.old) (K.held out.new) (lines_outcome given.items (lines_run given.items script.now)) }
+    ensures ends { Ends (status_after result) (K.held out.old) (K.held out.new)
+        (lines_outcome given.items (lines_run given.items script.now)) }
     ensures only { IfErr result IsScriptStop }
     ensures silent { IfErr result (λ status. IsSilent status → K.held out.new ≡ K.held out.old) }
-    ensures fault { IsErrOf result Status.WriteFault → Rose (K.faults out.old) (K.faults out.new) }
-    ensures calm { IsErrOf result Status.WriteFault ⊎ (K.faults out.new ≡ K.faults out.old) }
-    ensures later { K.faults out.old ≤ K.faults out.new }
+    ensures faults { Counts (IsErrOf result Status.WriteFault) (K.faults out.old) (K.faults out.new) }
 {
     let lines = lines_run(alloc, &given, script)?;
     run_lines(alloc, given, &lines, out)
@@ -88,14 +85,14 @@ fn given_tasks<F: Files>(
     name: Option<&str>,
     files: &mut F,
 ) -> Result<Vec<Task>, Status>
-    ensures tasks { IfSome (file_told (plain_name name.entry) (F.contents files.old)) (λ file. Gives result (given_tasks file)) }
+    ensures tasks { IfSome (file_told (plain_name name.entry) (F.contents files.old))
+        (λ file. Gives result (given_tasks file)) }
     ensures distinct { IfOk result (λ tasks. AreDistinct tasks.items) }
     ensures only { IfErr result IsFileStop }
     ensures refused { (task : ℕ) (field : List ℕ) → IsErrOf result (Status.TasksRefused task field)
-        → IfSome (file_of (Running (plain_name name.entry)) (F.contents files.old)) (λ file. IsTasksRefused file task field) }
-    ensures fault { IsErrOf result Status.ReadFault → Rose (F.faults files.old) (F.faults files.new) }
-    ensures calm { IsErrOf result Status.ReadFault ⊎ (F.faults files.new ≡ F.faults files.old) }
-    ensures later { F.faults files.old ≤ F.faults files.new }
+        → IfSome (file_of (Running (plain_name name.entry)) (F.contents files.old))
+        (λ file. IsTasksRefused file task field) }
+    ensures faults { Counts (IsErrOf result Status.ReadFault) (F.faults files.old) (F.faults files.new) }
     ensures kept { (file : List ℕ) → F.contents files.new file ≡ F.contents files.old file }
     ensures untouched { plain_name name.entry ≡ None → files.new ≡ files.old }
 {
@@ -116,17 +113,14 @@ pub fn run<S: Source, F: Files, K: Sink>(
     ensures ends { IfSome (work_of (Running (plain_name tasks.entry)) (S.left script.old) (F.contents files.old))
         (λ work. Ends (status_after result) (K.held out.old) (K.held out.new) (outcome_of work)) }
     ensures refused { (task : ℕ) (field : List ℕ) → IsErrOf result (Status.TasksRefused task field)
-        → IfSome (file_of (Running (plain_name tasks.entry)) (F.contents files.old)) (λ file. IsTasksRefused file task field) }
+        → IfSome (file_of (Running (plain_name tasks.entry)) (F.contents files.old))
+        (λ file. IsTasksRefused file task field) }
+    ensures unread { (task : ℕ) (field : List ℕ) → IsErrOf result (Status.TasksRefused task field)
+        → script.new ≡ script.old }
     ensures end { OnOk result (IsAtEnd (S.left script.new)) }
     ensures silent { IfErr result (λ status. IsSilent status → K.held out.new ≡ K.held out.old) }
-    ensures read { IsErrOf result Status.ReadFault → Rose (S.faults script.old) (S.faults script.new) ⊎ Rose (F.faults files.old) (F.faults files.new) }
-    ensures calm { IsErrOf result Status.ReadFault ⊎ (S.faults script.new ≡ S.faults script.old) }
-    ensures calm_files { IsErrOf result Status.ReadFault ⊎ (F.faults files.new ≡ F.faults files.old) }
-    ensures calm_sink { IsErrOf result Status.WriteFault ⊎ (K.faults out.new ≡ K.faults out.old) }
-    ensures write { IsErrOf result Status.WriteFault → Rose (K.faults out.old) (K.faults out.new) }
-    ensures reads { S.faults script.old ≤ S.faults script.new }
-    ensures reads_files { F.faults files.old ≤ F.faults files.new }
-    ensures writes { K.faults out.old ≤ K.faults out.new }
+    ensures reads { CountsEither (IsErrOf result Status.ReadFault) (S.faults script.old) (S.faults script.new) (F.faults files.old) (F.faults files.new) }
+    ensures writes { Counts (IsErrOf result Status.WriteFault) (K.faults out.old) (K.faults out.new) }
     ensures kept { (file : List ℕ) → F.contents files.new file ≡ F.contents files.old file }
     ensures untouched { plain_name tasks.entry ≡ None → files.new ≡ files.old }
     ensures usage { (word : ℕ) → IsErrOf result (Status.Usage word) → ⊥ }

@@ -2,7 +2,7 @@
 
 ghost use Rattle.std.specs.Prelude.{◌≡◌, ◌⊎◌, ◌<◌, ◌≤◌, length, IfOk, OnOk, OnErr, IfErr, IsErrOf, IfSome};
 ghost use Rattle.std.specs.Io.KnownBytes.{Appends, IsAtEnd};
-ghost use Rattle.dap_bytes.specs.Causes.{Rose};
+ghost use Rattle.dap_bytes.specs.Causes.{Counts};
 ghost use Rattle.dap_program.specs.Transfer.{AppendsPart, IsReadStop, TakesIn};
 
 use crate::status::Status;
@@ -22,9 +22,7 @@ fn read_some<S: Source>(
     ensures taken { IfOk result (TakesIn (S.left source.old) (S.left source.new) bytes.old.items bytes.new.items) }
     ensures only { IfErr result IsReadStop }
     ensures within { IsErrOf result (Status.Limit 0 5) → ⊥ }
-    ensures fault { IsErrOf result Status.ReadFault → Rose (S.faults source.old) (S.faults source.new) }
-    ensures calm { IsErrOf result Status.ReadFault ⊎ (S.faults source.new ≡ S.faults source.old) }
-    ensures later { S.faults source.old ≤ S.faults source.new }
+    ensures faults { Counts (IsErrOf result Status.ReadFault) (S.faults source.old) (S.faults source.new) }
 {
     let count = source.read(buf)?;
     bytes.extend_from_slice(&buf[..count])?;
@@ -39,10 +37,8 @@ pub fn read_all<S: Source>(alloc: Global, source: &mut S) -> Result<Vec<u8>, Sta
 
     // Nothing but a fault, a script that is too long and want of memory stops it. A fault is answered as one.
     ensures only { IfErr result IsReadStop }
-    ensures fault { IsErrOf result Status.ReadFault → Rose (S.faults source.old) (S.faults source.new) }
-    ensures calm { IsErrOf result Status.ReadFault ⊎ (S.faults source.new ≡ S.faults source.old) }
+    ensures faults { Counts (IsErrOf result Status.ReadFault) (S.faults source.old) (S.faults source.new) }
     ensures limit { IsErrOf result (Status.Limit 0 5) → IfSome (S.left source.old) (λ input. 67108864 < length input) }
-    ensures later { S.faults source.old ≤ S.faults source.new }
 {
     let mut bytes = Vec::new(alloc);
     let mut buf = vec![in alloc; 0u8; 4096]?;
@@ -58,9 +54,7 @@ pub fn read_all<S: Source>(alloc: Global, source: &mut S) -> Result<Vec<u8>, Sta
 pub fn write_all<K: Sink>(out: &mut K, bytes: &[u8]) -> Result<(), SinkFault>
     ensures whole { OnOk result (Appends (K.held out.old) (K.held out.new) bytes.now) }
     ensures part { OnErr result (AppendsPart (K.held out.old) (K.held out.new) bytes.now) }
-    ensures fault { IsErrOf result SinkFault.Failed → Rose (K.faults out.old) (K.faults out.new) }
-    ensures calm { IsErrOf result SinkFault.Failed ⊎ (K.faults out.new ≡ K.faults out.old) }
-    ensures later { K.faults out.old ≤ K.faults out.new }
+    ensures faults { Counts (IsErrOf result SinkFault.Failed) (K.faults out.old) (K.faults out.new) }
 {
     let mut at = 0;
     while at < bytes.len() {

@@ -1,8 +1,9 @@
 //! Devices that fail, give little or give too much.
 
-use super::{ONE_TASK, THREE_REPORTS, given_files, given_words};
+use super::{ONE_TASK, THREE_REPORTS, check_call, given_files, given_words};
 use crate::program::dap_alone;
 use crate::status::Status;
+use crate::tell::tell;
 use dap_outside::{Failed, MemFiles, MemSink, MemSource, Source};
 use std::test::Fail;
 
@@ -130,19 +131,66 @@ fn faults_of_files_and_sink_stop_a_check(rt: HostRuntime) -> Result<(), Fail> {
 }
 
 #[test]
-fn a_script_of_too_many_lines_is_refused(rt: HostRuntime) -> Result<(), Fail> {
+fn scripts_are_limited_in_lines_and_in_bytes(rt: HostRuntime) -> Result<(), Fail> {
     let alloc = rt.alloc();
-    let lines = vec![in alloc; b'\n'; 1_000_001]?;
-    let mut source = MemSource::new(lines, Vec::new(alloc));
-    let mut files = given_files(alloc, &[])?;
-    let mut sink = MemSink::new(alloc, Vec::new(alloc));
-    let words = given_words(alloc, &["run"])?;
-    let status = dap_alone(alloc, &words, &mut source, &mut files, &mut sink);
-    assert_eq!(rt;
-        status.to_string(alloc)?.as_str(),
-        "limit 4 at line 1000001"
-    );
-    assert!(rt; sink.bytes().is_empty());
+    // So many of this byte: blank lines, and a comment.
+    let cases = [
+        (b'\n', 1_000_000, "done"),
+        (b'\n', 1_000_001, "limit 4 at line 1000001"),
+        (b'#', 67_108_864, "done"),
+        (b'#', 67_108_865, "limit 5 at line 0"),
+    ];
+    for (byte, count, text) in &cases {
+        let bytes = vec![in alloc; *byte; *count]?;
+        let mut source = MemSource::new(bytes, Vec::new(alloc));
+        let mut files = given_files(alloc, &[])?;
+        let mut sink = MemSink::new(alloc, Vec::new(alloc));
+        let words = given_words(alloc, &["run"])?;
+        let status = dap_alone(alloc, &words, &mut source, &mut files, &mut sink);
+        assert_eq!(rt; status.to_string(alloc)?.as_str(), *text);
+        assert!(rt; sink.bytes().is_empty());
+    }
+    Ok(())
+}
+
+#[test]
+fn the_report_after_the_limit_is_named(rt: HostRuntime) -> Result<(), Fail> {
+    let alloc = rt.alloc();
+    let report =
+        "measure v 00000000000000000000000000000001 0 1 00000000000000000000000000000001\n";
+    let mut script = String::from_str(alloc, "task v count 1 1\ncollect v 0\n")?;
+    for _ in 0..50_000u32 {
+        script.push_str(report)?;
+    }
+    let small = "small v 0 reports 0\n";
+    check_call(
+        &rt,
+        alloc,
+        &["run"],
+        &[],
+        script.as_str(),
+        (0, "done"),
+        small,
+    )?;
+    script.push_str("#\n")?;
+    script.push_str(report)?;
+    let status = (11, "limit 2 at line 50004");
+    check_call(&rt, alloc, &["run"], &[], script.as_str(), status, small)
+}
+
+#[test]
+fn an_end_is_told_in_a_line(rt: HostRuntime) -> Result<(), Fail> {
+    let alloc = rt.alloc();
+    let cases = [
+        (Status::Done, ""),
+        (Status::Usage { word: 2 }, "dap: usage: word 2\n"),
+        (Status::NoMemory, "dap: no memory\n"),
+    ];
+    for (status, line) in &cases {
+        let mut errors = MemSink::new(alloc, Vec::new(alloc));
+        assert!(rt; tell(alloc, status, &mut errors).is_ok());
+        assert_eq!(rt; errors.bytes(), line.as_bytes());
+    }
     Ok(())
 }
 

@@ -1,6 +1,7 @@
 //! Scripts without a task file, and words.
 
 use super::{THREE_REPORTS, check_call, task_lines};
+use load_maker::load_script;
 use std::test::Fail;
 
 /// Scripts and what they print.
@@ -247,7 +248,7 @@ fn a_seventeenth_task_passes_a_limit(rt: HostRuntime) -> Result<(), Fail> {
 }
 
 /// Words that are no command, and the status.
-const FAULTY: [(&[&str], &str); 9] = [
+const FAULTY: [(&[&str], &str); 23] = [
     (&[], "usage: word 1"),
     (&["ran"], "usage: word 1"),
     (&["run", "lanes"], "usage: word 2"),
@@ -257,6 +258,20 @@ const FAULTY: [(&[&str], &str); 9] = [
     (&["check"], "usage: word 2"),
     (&["check", "store"], "usage: word 2"),
     (&["check", "tasks", "tasks"], "usage: word 3"),
+    (&["run", "workers"], "usage: word 2"),
+    (&["run", "loss"], "usage: word 2"),
+    (&["check", "workers"], "usage: word 2"),
+    (&["load"], "usage: word 2"),
+    (&["load", "0", "1"], "usage: word 2"),
+    (&["load", "50001", "1"], "usage: word 2"),
+    (&["load", "01", "1"], "usage: word 2"),
+    (&["load", "50000"], "usage: word 3"),
+    (&["load", "3", "-1"], "usage: word 3"),
+    (&["load", "3", "18446744073709551616"], "usage: word 3"),
+    (&["load", "3", "5", "5"], "usage: word 4"),
+    (&["--help", "x"], "usage: word 2"),
+    (&["--version", "--version"], "usage: word 2"),
+    (&["help"], "usage: word 1"),
 ];
 
 #[test]
@@ -265,4 +280,27 @@ fn words_that_are_no_command_are_refused(rt: HostRuntime) -> Result<(), Fail> {
         check_call(&rt, rt.alloc(), words, &[], THREE_REPORTS, (1, *text), "")?;
     }
     Ok(())
+}
+
+/// The load of three measurements and the seed 5, as an independent program prints it.
+const LOAD: &str = "task load sum 16 1 3600
+measure load 00000000000000000000000000000000 0 5 00000000000000050000000000000000
+measure load 01000000000000000000000000000001 1 6 00000000000000050000000000000001
+measure load 02000000000000000000000000000002 2 9 00000000000000050000000000000002
+collect load 0
+collect load 3600
+";
+
+#[test]
+fn a_load_is_printed_and_run(rt: HostRuntime) -> Result<(), Fail> {
+    let alloc = rt.alloc();
+    let done = (0, "done");
+    check_call(&rt, alloc, &["load", "3", "5"], &[], "x", done, LOAD)?;
+    let sums = "collected load 0 reports 3 rejected 0 sum 20\nsmall load 3600 reports 0\n";
+    check_call(&rt, alloc, &["run"], &[], LOAD, done, sums)?;
+    check_call(&rt, alloc, &["--version"], &[], "x", done, "dap 0.1.0\n")?;
+    let load = load_script(alloc, 100, 7)?;
+    let load = str::from_utf8(load.as_slice()).expect(&rt, "a load is ASCII");
+    let sums = "collected load 0 reports 100 rejected 0 sum 329050\nsmall load 3600 reports 0\n";
+    check_call(&rt, alloc, &["run"], &[], load, done, sums)
 }
