@@ -1,3 +1,5 @@
+ghost use Rattle.std.specs.Prelude.{◌≤◌};
+
 use super::*;
 use std::test::Fail;
 
@@ -77,7 +79,92 @@ fn the_limits_are_those_of_the_formats(rt: HostRuntime) {
         (GREATEST_MINIMUM, GREATEST_PRECISION),
         (1_000_000, 1_000_000_000)
     );
+    assert_eq!(rt; MOST_BUCKETS, 64);
     assert_eq!(rt; LONGEST_SCRIPT, 64 * 1024 * 1024);
     assert_eq!(rt; LONGEST_TASK_FILE, 1024 * 1024);
     assert_eq!(rt; LONGEST_BLOCK, 16 * 1024 * 1024);
+}
+
+#[test]
+fn a_bucket_is_the_start_and_the_precision_so_often(rt: HostRuntime) {
+    let batch = Span {
+        start: 0,
+        buckets: 3,
+    };
+    assert_eq!(rt; (batch.bucket(3600, 0), batch.bucket(3600, 2)), (0, 7200));
+    let late = Span {
+        start: LATEST_TIME,
+        buckets: 255,
+    };
+    assert_eq!(rt; late.bucket(4_294_967_295, 254), 1_000_001_090_921_692_929);
+}
+
+/// Whether the batch of the buckets 3600, 7200 and 10800 shares one with another batch, asked from both.
+fn are_shared(start: u64, buckets: u8) -> (bool, bool)
+    requires { (start ≤ LATEST_TIME) × (1 ≤ buckets) × (buckets ≤ MOST_BUCKETS) }
+{
+    let three = Span {
+        start: 3600,
+        buckets: 3,
+    };
+    let other = Span { start, buckets };
+    (three.shares(&other, 3600), other.shares(&three, 3600))
+}
+
+#[test]
+fn batches_share_a_bucket_where_one_starts_in_the_other(rt: HostRuntime) {
+    assert_eq!(rt; are_shared(0, 1), (false, false));
+    assert_eq!(rt; are_shared(0, 2), (true, true));
+    assert_eq!(rt; are_shared(3600, 1), (true, true));
+    assert_eq!(rt; are_shared(10_800, 64), (true, true));
+    assert_eq!(rt; are_shared(14_400, 1), (false, false));
+    assert_eq!(rt; are_shared(7199, 2), (false, false));
+    assert_eq!(rt; are_shared(7201, 1), (false, false));
+    assert_eq!(rt; are_shared(LATEST_TIME, 64), (false, false));
+}
+
+#[test]
+fn a_batch_holds_its_buckets(rt: HostRuntime) {
+    let three = Span {
+        start: 3600,
+        buckets: 3,
+    };
+    for (start, want) in [
+        (0, false),
+        (3599, false),
+        (3600, true),
+        (10_800, true),
+        (14_400, false),
+    ] {
+        assert_eq!(rt; three.holds(start, 3600), want);
+    }
+}
+
+#[test]
+fn a_batch_starts_at_a_multiple_and_ends_at_a_time(rt: HostRuntime) {
+    for (start, buckets, want) in [
+        (0, 1, true),
+        (1, 1, false),
+        (999_999_999, 1, false),
+        (999_999_999_000_000_000, 1, true),
+        (999_999_999_000_000_000, 2, false),
+        (999_999_936_000_000_000, 64, true),
+        (999_999_937_000_000_000, 64, false),
+        (1_000_000_000_000_000_000, 1, false),
+        (18_446_744_073_000_000_000, 255, false),
+    ] {
+        assert_eq!(rt; Span { start, buckets }.passes_start(1_000_000_000), want);
+    }
+    let latest = Span {
+        start: LATEST_TIME,
+        buckets: 1,
+    };
+    let later = Span {
+        start: LATEST_TIME,
+        buckets: 2,
+    };
+    assert_eq!(rt;
+        (latest.passes_start(1), later.passes_start(1)),
+        (true, false)
+    );
 }
