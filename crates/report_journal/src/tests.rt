@@ -152,13 +152,14 @@ fn a_block_is_whole_or_absent(rt: HostRuntime) -> Result<(), Fail> {
     Ok(())
 }
 
-/// What a log answers whose first append stops at the first listed call, and that may bear so many stops in coming back.
+/// What a log answers whose first append stops at the first listed call, and that may bear so many stops in coming back;
+/// how many of these are left, and how many records it holds.
 fn comes_back(
     rt: &impl Abort,
     alloc: Global,
     stops: &[Stop],
     bears: u32,
-) -> Result<(Result<u32, RestartFault>, usize), Fail> {
+) -> Result<(Result<(), RestartFault>, u32, usize), Fail> {
     let Ok(mut log) = Log::open(alloc, disk(alloc, &[], stops)?) else {
         return Err("no journal".into());
     };
@@ -166,9 +167,10 @@ fn comes_back(
     assert_eq!(rt; records.len(), 1);
     let outcome = log.append(alloc, &records);
     assert_eq!(rt; outcome, Err(AppendFault::Down));
-    assert!(rt; bears > 0);
-    let back = log.restart_through(bears);
-    Ok((back, log.records().len()))
+    let mut left = bears;
+    assert!(rt; left > 0);
+    let back = log.restart_through(&mut left);
+    Ok((back, left, log.records().len()))
 }
 
 #[test]
@@ -180,11 +182,11 @@ fn a_log_comes_back_through_stops(rt: HostRuntime) -> Result<(), Fail> {
         Stop { call: 8, image },
         Stop { call: 9, image },
     ];
-    assert_eq!(rt; comes_back(&rt, alloc, &stops[..1], 2)?, (Ok(2), 1));
-    assert_eq!(rt; comes_back(&rt, alloc, &stops[..2], 2)?, (Ok(1), 1));
+    assert_eq!(rt; comes_back(&rt, alloc, &stops[..1], 2)?, (Ok(()), 2, 1));
+    assert_eq!(rt; comes_back(&rt, alloc, &stops[..2], 2)?, (Ok(()), 1, 1));
     assert_eq!(rt;
         comes_back(&rt, alloc, &stops, 2)?,
-        (Err(RestartFault::Down), 0)
+        (Err(RestartFault::Down), 0, 0)
     );
     Ok(())
 }

@@ -18,8 +18,8 @@ returns-in-Err-Dead-clause-any_moment g c =
     (same_run g.D.Disk.moment g.D.Disk.left_since c.tries.self.disk c.restart.new.self.disk c.args.self.now.records c.args.self.now.coming c.tries.self.records c.tries.self.coming
     inv.records inv.coming c.restart.ensures.any_moment)
 
-pub returns-then-left-eq1-clause-any_moment : goal.returns-then-left-eq1-clause-any_moment
-returns-then-left-eq1-clause-any_moment g c =
+pub returns-then-left-eq0-clause-any_moment : goal.returns-then-left-eq0-clause-any_moment
+returns-then-left-eq0-clause-any_moment g c =
     let inv = c.tries.invariant in
     inv.goes c.restart.new.self.disk
     (same_run g.D.Disk.moment g.D.Disk.left_since c.tries.self.disk c.restart.new.self.disk c.args.self.now.records c.args.self.now.coming c.tries.self.records c.tries.self.coming
@@ -34,7 +34,7 @@ tries-preserved g c =
     let run = same_run g.D.Disk.moment g.D.Disk.left_since c.tries.self.disk c.restart.new.self.disk c.args.self.now.records c.args.self.now.coming c.tries.self.records c.tries.self.coming
     inv.records inv.coming c.restart.ensures.any_moment in
     record {
-      some = omega (arith, inv.some, c.if-left-eq1.false);
+      some = omega (arith, inv.some, c.if-left-eq0.false);
       left = omega (arith, inv.left);
       downs = record {
         never_falls = omega (arith, inv.downs.never_falls, stops.never_falls);

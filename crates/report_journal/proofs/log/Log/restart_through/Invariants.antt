@@ -7,8 +7,8 @@ use Rattle.report_journal.proofs.log.Log.restart_through.Given as goal
 abbrev pub invariant-tries : goal.invariant-tries
 invariant-tries g l = record {
   some : 0 < l.left;
-  left : l.left ≤ l.stops;
-  downs : CountsTries (l.stops - l.left) (g.D.Disk.downs l.initial.self.disk) (g.D.Disk.downs l.self.disk);
+  left : l.left ≤ l.initial.left;
+  downs : CountsTries (l.initial.left - l.left) (g.D.Disk.downs l.initial.self.disk) (g.D.Disk.downs l.self.disk);
   deads : g.D.Disk.deads l.self.disk ≡ g.D.Disk.deads l.initial.self.disk;
   records : l.self.records ≡ l.initial.self.records;
   coming : l.self.coming ≡ l.initial.self.coming;
