@@ -10,9 +10,9 @@ ghost use Rattle.dap_direct.specs.Sums.{AreOutShares, content_with};
 
 use dap_messages::Report;
 use dap_seal::{CmacSeal, Head, OpenFault, Seal};
-use dap_tasks::{SealKeys, Task};
+use dap_tasks::Task;
 use std::alloc::{AllocError, Global};
-use vdaf_api::{PrepFault, Role, Vdaf};
+use vdaf_api::{PrepFault, Role, SealKeys, Vdaf};
 
 /// The out shares of a report whose verdict is ok.
 #[derive(Debug, Drop)]

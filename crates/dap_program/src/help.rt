@@ -24,7 +24,8 @@ feed; MIN is 1 to 1,000,000, PRECISION 1 to 1,000,000,000, T, TIME and START at 
   task NAME count MIN PRECISION             a task that counts measurements of 1
   task NAME sum BITS MIN PRECISION          one that adds numbers of 1 to 64 bits
   task NAME histogram B0,B1 MIN PRECISION   one that counts numbers in buckets, of
-                                            which these are the upper bounds
+                                            which these 1 to 1,023 are the upper
+                                            bounds
   now T                                     the moment is T from here on, if it was
                                             less
   measure NAME ID TIME VALUE SEED           a client's measurement; ID and SEED are

@@ -22,7 +22,7 @@ restart leader
 restart helper";
 
 /// Lines that are read, each as a script of its own.
-const TAKEN: [&[u8]; 23] = [
+const TAKEN: [&[u8]; 22] = [
     b"# \x00\x7f\r is a comment",
     b"# ends with a return\r",
     b"collect v 999999999999999999",
@@ -37,7 +37,6 @@ const TAKEN: [&[u8]; 23] = [
     b"task v histogram 0 1 1",
     b"task v histogram 1,2 1 1",
     b"task v histogram 18446744073709551615 1 1",
-    b"task v histogram 0,1,2,3,4,5,6,7,8,9,10,11,12,13,14,15,16,17,18,19,20,21,22,23,24,25,26,27,28,29,30,31,32,33,34,35,36,37,38,39,40,41,42,43,44,45,46,47,48,49,50,51,52,53,54,55,56,57,58,59,60,61,62 1 1",
     b"measure v 000102030405060708090a0b0c0d0e0f 0 0 000102030405060708090a0b0c0d0e0f",
     b"measure v 000102030405060708090a0b0c0d0e0f 999999999999999999 18446744073709551615 000102030405060708090a0b0c0d0e0f",
     b"upload Zg==",
@@ -49,7 +48,7 @@ const TAKEN: [&[u8]; 23] = [
 ];
 
 /// Lines that are refused.
-const REFUSED: [&[u8]; 74] = [
+const REFUSED: [&[u8]; 73] = [
     b"# \x80",
     b"collect v 0\r",
     b" # a",
@@ -98,7 +97,6 @@ const REFUSED: [&[u8]; 74] = [
     b"task v histogram 1 1",
     b"task v histogram 18446744073709551616 1 1",
     b"task v histogram 01 1 1",
-    b"task v histogram 0,1,2,3,4,5,6,7,8,9,10,11,12,13,14,15,16,17,18,19,20,21,22,23,24,25,26,27,28,29,30,31,32,33,34,35,36,37,38,39,40,41,42,43,44,45,46,47,48,49,50,51,52,53,54,55,56,57,58,59,60,61,62,63 1 1",
     b"measure v 000102030405060708090a0b0c0d0e0f 1000000000000000000 0 000102030405060708090a0b0c0d0e0f",
     b"measure v 000102030405060708090a0b0c0d0e0f 0 18446744073709551616 000102030405060708090a0b0c0d0e0f",
     b"measure v 000102030405060708090a0b0c0d0e0 0 0 000102030405060708090a0b0c0d0e0f",
@@ -217,6 +215,32 @@ fn lines_are_read_or_refused(rt: HostRuntime) -> Result<(), Fail> {
     for text in REFUSED {
         if text.len() <= LONGEST_SCRIPT {
             assert_eq!(rt; refused_line(rt.alloc(), text)?, 1);
+        }
+    }
+    Ok(())
+}
+
+/// The line of a histogram with so many bounds, but at least one: 0, 1, 2 and so on.
+fn histogram_line(alloc: Global, size: u32) -> Result<String, Fail> {
+    let mut line = String::from_str(alloc, "task v histogram 0")?;
+    for bound in 1..size {
+        line.push_str(format!(in alloc; ",{bound}")?.as_str())?;
+    }
+    line.push_str(" 1 1")?;
+    Ok(line)
+}
+
+#[test]
+fn a_histogram_has_at_most_1023_bounds(rt: HostRuntime) -> Result<(), Fail> {
+    let alloc = rt.alloc();
+    for (size, refused) in [(64, 0), (1023, 0), (1024, 1)] {
+        let line = histogram_line(alloc, size)?;
+        if line.len() <= LONGEST_SCRIPT {
+            assert_eq!(rt;
+                refused_line(alloc, line.as_bytes())?,
+                refused,
+                "{size} bounds"
+            );
         }
     }
     Ok(())

@@ -3,7 +3,7 @@ use Rattle.std.specs.Prelude.{ℕ, List, Option, None}
 use Rattle.std.specs.Option.{option_map}
 use Rattle.dap_messages.specs.declared.report.Report.{Report}
 use Rattle.dap_tasks.specs.Task.{PlainTask}
-use Rattle.dap_tasks.specs.declared.keys.SealKeys.{SealKeys}
+use Rattle.vdaf_api.specs.declared.keys.SealKeys.{SealKeys}
 use Rattle.vdaf_api.specs.declared.role.Role.TheVariants.{Leader, Helper}
 use Rattle.vdaf_api.specs.declared.step.Step.{Step}
 use Rattle.vdaf_api.specs.Functions.{Functions, Parts}

@@ -13,7 +13,7 @@ use Rattle.aes_cmac_prg.specs.Cmac.{cmac}
 use Rattle.aes_cmac_prg.specs.Stream.{stream, byte_at}
 use Rattle.dap_batch.specs.Checksum.{xor_bytes}
 use Rattle.dap_batch.specs.XorLaws.{length-xor_bytes, xor_bytes-undo}
-use Rattle.dap_tasks.specs.declared.keys.SealKeys.{SealKeys}
+use Rattle.vdaf_api.specs.declared.keys.SealKeys.{SealKeys}
 use Rattle.vdaf_api.specs.declared.role.Role.{Role}
 use Rattle.dap_seal.specs.declared.head.Head.{Head}
 use Rattle.dap_seal.specs.Sealed.{cipher_info, covered_by, tag_text, tag_by, sealed_by, ciphertext_of, given_tag, is_tagged, opened_by}

@@ -5,7 +5,7 @@ use Rattle.std.specs.Str.{bytes_eq}
 use Rattle.aes_cmac_prg.specs.Cmac.{cmac}
 use Rattle.aes_cmac_prg.specs.Stream.{stream}
 use Rattle.dap_batch.specs.Checksum.{xor_bytes}
-use Rattle.dap_tasks.specs.declared.keys.SealKeys.{SealKeys}
+use Rattle.vdaf_api.specs.declared.keys.SealKeys.{SealKeys}
 use Rattle.vdaf_api.specs.Role.{role_byte}
 use Rattle.vdaf_api.specs.declared.role.Role.{Role}
 use Rattle.dap_seal.specs.declared.head.Head.{Head}

@@ -8,9 +8,8 @@ use crate::cover::covered;
 use crate::head::Head;
 use crate::seal::{OpenFault, Seal};
 use crate::tag::{TAG_LEN, tag_of};
-use dap_tasks::SealKeys;
 use std::alloc::{AllocError, Global};
-use vdaf_api::Role;
+use vdaf_api::{Role, SealKeys};
 
 /// The seal with the keys of one of the two aggregators: the plain bytes are covered by the stream of the first key,
 /// and a tag by CMAC with the second key (NIST SP 800-38B) stands behind them.

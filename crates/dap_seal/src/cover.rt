@@ -7,9 +7,8 @@ ghost use Rattle.dap_seal.specs.Sealed.{cipher_info, covered_by};
 
 use aes_cmac_prg::Prg;
 use dap_bytes::{Id, put_u8};
-use dap_tasks::SealKeys;
 use std::alloc::{AllocError, Global};
-use vdaf_api::Role;
+use vdaf_api::{Role, SealKeys};
 
 /// Bytes covered by the stream of a key, an aggregator and an identifier, or uncovered again.
 pub fn covered(

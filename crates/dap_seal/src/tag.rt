@@ -8,9 +8,8 @@ use aes_block::Key;
 use aes_cmac_prg::cmac;
 use dap_bytes::{put_u8, put_u32, put_u64};
 use dap_messages::put_name;
-use dap_tasks::SealKeys;
 use std::alloc::{AllocError, Global};
-use vdaf_api::Role;
+use vdaf_api::{Role, SealKeys};
 
 /// How many bytes a tag has.
 pub const TAG_LEN: usize = 16;

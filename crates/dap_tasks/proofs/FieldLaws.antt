@@ -14,7 +14,7 @@ use Rattle.vdaf_api.specs.Kind.{AreBounds, is_kind}
 use Rattle.vdaf_api.specs.declared.kind.Kind.TheVariants.{Histogram}
 use Rattle.dap_tasks.specs.Fields.{ranged, number_of, numbers_of, bounds_of, octets_of, keys_of, field}
 use Rattle.dap_tasks.specs.TaskFile.{Holds, HoldsNumber, HoldsOctets, HoldsKeys, integers}
-use Rattle.dap_tasks.specs.declared.keys.SealKeys.{SealKeys}
+use Rattle.vdaf_api.specs.declared.keys.SealKeys.{SealKeys}
 
 -- ---- what is read was there
 

@@ -4,7 +4,7 @@ use Rattle.std.specs.Prelude.{slice_range}
 use Rattle.std.specs.Option.{option_and_then}
 use Rattle.toml.specs.Data.{Data}
 use Rattle.dap_tasks.specs.Fields.{octets_of, keys_of}
-use Rattle.dap_tasks.specs.declared.keys.SealKeys.{SealKeys}
+use Rattle.vdaf_api.specs.declared.keys.SealKeys.{SealKeys}
 
 in_two : List ℕ → Option SealKeys
 in_two octets = Some (record { enc = slice_range octets 0 16; mac = slice_range octets 16 32 })

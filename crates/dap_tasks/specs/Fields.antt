@@ -14,7 +14,7 @@ use Rattle.vdaf_api.specs.declared.kind.Kind.{Kind}
 use Rattle.vdaf_api.specs.declared.kind.Kind.TheVariants.{Count, Sum, Histogram}
 use Rattle.dap_tasks.specs.Task.{PlainTask, has_name}
 use Rattle.dap_tasks.specs.declared.fields.TheConstants.{MAX_BOUND}
-use Rattle.dap_tasks.specs.declared.keys.SealKeys.{SealKeys}
+use Rattle.vdaf_api.specs.declared.keys.SealKeys.{SealKeys}
 
 -- what f makes of a value that is there
 infixl 10 ◌>>=◌
@@ -44,7 +44,7 @@ numbers_of (item value items) = do
 abbrev pub ascending : List ℕ → Option (List ℕ)
 ascending bounds = if is_kind (Histogram bounds) then Some bounds else None
 
--- an array of bounds: 1 to 63 numbers, strictly ascending
+-- an array of bounds: 1 to 1,023 numbers, strictly ascending
 abbrev pub bounds_of : Data → Option (List ℕ)
 bounds_of value = do
   items ← as_array value

@@ -13,7 +13,7 @@ use Rattle.dap_tasks.specs.Fields.{is_other, table_keys}
 use Rattle.dap_tasks.specs.File.{Refusal, task_of}
 use Rattle.dap_tasks.specs.Task.{PlainTask}
 use Rattle.dap_tasks.specs.Tasks.{AreDistinct}
-use Rattle.dap_tasks.specs.declared.keys.SealKeys.{SealKeys}
+use Rattle.vdaf_api.specs.declared.keys.SealKeys.{SealKeys}
 
 -- the table has this value at the key
 abbrev pub Holds : Members → List ℕ → Data → Type 0

@@ -3,7 +3,7 @@ use Rattle.std.specs.Prelude.{ℕ, List, ◌∷◌, ◌++◌, replicate, codes}
 use Rattle.aes_cmac_prg.specs.Cmac.{cmac}
 use Rattle.vdaf_api.specs.declared.kind.Kind.{Kind}
 use Rattle.dap_tasks.specs.Task.{PlainTask}
-use Rattle.dap_tasks.specs.declared.keys.SealKeys.{SealKeys}
+use Rattle.vdaf_api.specs.declared.keys.SealKeys.{SealKeys}
 
 -- the key of a label and a task's name: the tag, under the key of 16 zero bytes, of the label, a zero byte and the name
 abbrev pub trial_key : List ℕ → List ℕ → List ℕ

@@ -10,13 +10,12 @@ ghost use Rattle.dap_tasks.specs.Task.{has_name};
 ghost use Rattle.vdaf_api.specs.Kind.{IsKind};
 ghost use Rattle.vdaf_api.specs.declared.kind.Kind.TheVariants as PlainKind;
 
-use crate::keys::SealKeys;
 use crate::task::Task;
 use dap_bytes::Name;
 use hex::FromHex;
 use std::alloc::{AllocError, Global};
 use toml::{Table, Value};
-use vdaf_api::{Bounds, Kind};
+use vdaf_api::{Bounds, Kind, SealKeys};
 
 /// The greatest whole number that a file can write.
 const MAX_BOUND: u64 = 9_223_372_036_854_775_807;
@@ -88,7 +87,7 @@ fn ascending(bounds: Bounds) -> Option<Kind>
     if kind.is_valid() { Some(kind) } else { None }
 }
 
-/// A histogram with the bounds at a key: 1 to 63 numbers, strictly ascending.
+/// A histogram with the bounds at a key: 1 to 1,023 numbers, strictly ascending.
 pub fn histogram_at(alloc: Global, table: &Table, key: &str) -> Result<Option<Kind>, AllocError>
     ensures kind { IfOk result (λ kind. kind ≡ option_map PlainKind.Histogram (option_and_then bounds_of (get_member key.now (table_view table.now)))) }
     ensures ranges { IfOk result (λ kind. IfSome kind IsKind) }

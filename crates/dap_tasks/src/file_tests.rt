@@ -142,6 +142,25 @@ fn ends_of_ranges_are_read(rt: HostRuntime) -> Result<(), Fail> {
 }
 
 #[test]
+fn a_histogram_has_at_most_1023_bounds(rt: HostRuntime) -> Result<(), Fail> {
+    let alloc = rt.alloc();
+    for (size, want) in [
+        (64_u32, "1 tasks"),
+        (1023, "1 tasks"),
+        (1024, "task 1 field bounds"),
+    ] {
+        let mut kind = String::from_str(alloc, "\"histogram\"\nbounds = [0")?;
+        for bound in 1..size {
+            kind.push_str(format!(in alloc; ", {bound}")?.as_str())?;
+        }
+        kind.push_str("]")?;
+        let text = EXAMPLE.replace(alloc, "\"count\"", kind.as_str())?;
+        assert_eq!(rt; answer(alloc, &text)?.as_str(), want, "{size} bounds");
+    }
+    Ok(())
+}
+
+#[test]
 fn short_files_are_read_or_refused(rt: HostRuntime) -> Result<(), Fail> {
     let alloc = rt.alloc();
     for (text, want) in [

@@ -1,9 +1,8 @@
 //! Tasks.
 
-use crate::keys::SealKeys;
 use dap_bytes::Name;
 use std::marker::Model;
-use vdaf_api::Kind;
+use vdaf_api::{Kind, SealKeys};
 
 /// What is measured, under which name, in which batches, and with which keys. A contract sees it as the record of its
 /// fields, and its numbers are always within their ranges.
@@ -26,7 +25,8 @@ pub struct Task {
 }
 
 impl Model for Task {
-    ghost use Rattle.dap_tasks.specs.Task.{PlainTask, AreTaskNumbers};
+    ghost use Rattle.dap_tasks.specs.Task.{PlainTask};
+    ghost use Rattle.vdaf_api.specs.TaskNumbers.{AreTaskNumbers};
 
     ghost Value = { PlainTask };
 

@@ -2,15 +2,14 @@
 
 ghost use Rattle.std.specs.Prelude.{◌≡◌, ◌≤◌, length, codes};
 ghost use Rattle.vdaf_api.specs.Kind.{IsKind};
-ghost use Rattle.dap_tasks.specs.Task.{AreTaskNumbers};
+ghost use Rattle.vdaf_api.specs.TaskNumbers.{AreTaskNumbers};
 ghost use Rattle.dap_tasks.specs.Trial.{trial_key, leader_keys, helper_keys, trial_of};
 
-use crate::keys::SealKeys;
 use crate::task::Task;
 use aes_block::Key;
 use aes_cmac_prg::cmac;
 use dap_bytes::Name;
-use vdaf_api::Kind;
+use vdaf_api::{Kind, SealKeys};
 
 /// How long the longest label is.
 const MAX_LABEL: usize = 10;

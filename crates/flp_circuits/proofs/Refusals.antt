@@ -20,6 +20,7 @@ use Rattle.field_laws.proofs.Powers.{power-suc}
 use Rattle.field_laws.proofs.Sums.{sum-zero, sum-suc, sum_same, sum_scale, eval_is_sum}
 use Rattle.field_laws.proofs.Modulo.{number-small, residue-plus}
 use Rattle.field_laws.proofs.RootCount.{vanishes, minus-nought}
+use Rattle.flp_circuits.specs.declared.histogram.TheConstants.{MOST_BOUNDS}
 use Rattle.flp_circuits.specs.Shape.{quadratic_at, Shape, gadget, wires_of, results, IsValid, IsEncoding}
 use Rattle.flp_circuits.specs.StaysValid.{StaysValid, StaysValidAtPairs}
 use Rattle.flp_circuits.specs.Kinds.{bucket, bit_form, bit, binary, one_hot, total, weighed, weighted, count_shape, sum_shape, histogram_shape}
@@ -153,7 +154,7 @@ module _ {F : Type 0} {ring : Ring F} (laws : RingLaws ring) (whole : NoDivisors
       ∙ ap (λ d. bit ring (nat_eq (d % 2) 1))
       (ap (λ k. k / 2 ^ j) (let e : m ≡ (2 * m + b) / 2 = omega arith in e) ∙ div-div-eq-div-mul (2 * m + b) 2 (2 ^ j) ∙ ap (λ k. (2 * m + b) / k) (mul_comm 2 (2 ^ j) ∙ sym (pow-suc 2 j)))
 
-  bits_number : (x : List F) → ((i : ℕ) → i < length x → (get_or x i ring.nought ≡ ring.nought) ⊎ (get_or x i ring.nought ≡ ring.unit))
+  pub bits_number : (x : List F) → ((i : ℕ) → i < length x → (get_or x i ring.nought ≡ ring.nought) ⊎ (get_or x i ring.nought ≡ ring.unit))
       → (m : ℕ) × ((m < 2 ^ length x) × ((j : ℕ) → j < length x → get_or x j ring.nought ≡ bit ring (nat_eq (m / 2 ^ j % 2) 1)))
   bits_number [] bits = (0, (omega arith, λ j small. absurd (omega arith)))
   bits_number (a ∷ x) bits =
@@ -242,7 +243,7 @@ module _ {F : Type 0} {ring : Ring F} {p : ℕ} {number : F → ℕ} {residue : 
       let h = o.hot single in
       (h.0, (h.1.0, fill_by_all (λ i. bit ring (nat_eq i h.0)) x n ring.nought size h.1.1))
 
-  pub histogram_refuses : NoDivisors ring → 1024 < p → (bounds : List ℕ) (x rs : List F) (ss : ℕ → List F) → length bounds ≤ 1023 → IsStrictlyIncreasing bounds → length x ≡ length bounds + 1 → length bounds + 1 < length rs
+  pub histogram_refuses : NoDivisors ring → 1024 < p → (bounds : List ℕ) (x rs : List F) (ss : ℕ → List F) → length bounds ≤ MOST_BOUNDS → IsStrictlyIncreasing bounds → length x ≡ length bounds + 1 → length bounds + 1 < length rs
       → StaysValidAtPairs ring (histogram_shape ring bounds) x rs ss
       → IsEncoding (histogram_shape ring bounds) x
   histogram_refuses whole large bounds x rs ss few up size many stays =

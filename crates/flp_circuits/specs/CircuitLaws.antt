@@ -7,6 +7,7 @@ use Rattle.field_laws.proofs.Solve.{at, plus, times, solve}
 use Rattle.field_laws.proofs.Differences.{minus-add, minus-scale}
 use Rattle.field_laws.specs.Polynomial.{add_polynomials, scale}
 use Rattle.field_laws.proofs.Polynomials.{get_or-add, get_or-scale}
+use Rattle.flp_circuits.specs.declared.histogram.TheConstants.{MOST_BOUNDS}
 use Rattle.flp_circuits.specs.Shape.{ShapeLaws, EncodeLaws, IsValid}
 use Rattle.flp_circuits.specs.Kinds.{bucket, bit, binary, one_hot, total, weighed, count_shape, sum_shape, histogram_shape}
 use Rattle.flp_circuits.specs.LinearityLaws.{one_entry, weighted-add, weighted-scale, total-add, total-scale}
@@ -51,7 +52,7 @@ module _ {F : Type 0} {ring : Ring F} (laws : RingLaws ring) where
     validity-scale = λ a o x joint r hx hj hr. weighted-scale laws a _ bits r;
   }
 
-  pub histogram_keeps : (bounds : List ℕ) → length bounds ≤ 1023 → ShapeLaws ring (histogram_shape ring bounds)
+  pub histogram_keeps : (bounds : List ℕ) → length bounds ≤ MOST_BOUNDS → ShapeLaws ring (histogram_shape ring bounds)
   histogram_keeps bounds few = let n : ℕ = length bounds + 1 in record {
     has_calls = omega arith;
     few_calls = omega arith;
@@ -101,7 +102,7 @@ module _ {F : Type 0} {ring : Ring F} (laws : RingLaws ring) where
     truncate-add = λ x y hx hy. ap (λ a. a ∷ []) (weighted-add laws _ bits x y) ∙ sym (one_entry laws _ _);
   }
 
-  pub histogram_encodes : (bounds : List ℕ) → length bounds ≤ 1023 → EncodeLaws ring (histogram_shape ring bounds)
+  pub histogram_encodes : (bounds : List ℕ) → length bounds ≤ MOST_BOUNDS → EncodeLaws ring (histogram_shape ring bounds)
   histogram_encodes bounds few = record {
     some_out = omega arith;
     few_out = omega arith;

@@ -2,6 +2,7 @@
 
 ghost use Rattle.std.specs.Prelude.{◌≡◌, ◌≤◌, length, nat_le, position};
 ghost use Rattle.std.specs.List.Sorted.{IsStrictlyIncreasing};
+ghost use Rattle.flp_circuits.specs.declared.histogram.TheConstants.{MOST_BOUNDS};
 
 use crate::circuit::{Circuit, EncodeFault};
 use crate::entries::{bit_test, one_hot_at, sum_all, weigh};
@@ -9,15 +10,18 @@ use field_laws::Field;
 use std::alloc::{AllocError, Global};
 use std::marker::PhantomData;
 
+/// The most bounds of a histogram, whose out share then has 1,024 elements.
+pub const MOST_BOUNDS: usize = 1023;
+
 /// The circuit of histograms: a measurement is any number, and falls in the bucket of the first bound that it is not
-/// above, or in the last bucket where it is above all. The bounds, 1 to 63 of them, ascend strictly.
+/// above, or in the last bucket where it is above all. The bounds, 1 to [`MOST_BOUNDS`] of them, ascend strictly.
 #[derive(Drop)]
 pub struct Histogram<F> {
     /// The upper bounds of all buckets but the last, which has none.
     pub bounds: Vec<u64>,
     field: PhantomData<F>,
     pub ghost some_bound: { 1 ≤ length bounds.items },
-    pub ghost few_bounds: { length bounds.items ≤ 63 },
+    pub ghost few_bounds: { length bounds.items ≤ MOST_BOUNDS },
     pub ghost ascending: { IsStrictlyIncreasing bounds.items },
 }
 
@@ -34,7 +38,7 @@ impl<F> Histogram<F> {
     /// The circuit of histograms between these bounds, which ascend strictly.
     pub fn new(bounds: Vec<u64>) -> Self
         requires some_bound { 1 ≤ length bounds.items }
-        requires few_bounds { length bounds.items ≤ 63 }
+        requires few_bounds { length bounds.items ≤ MOST_BOUNDS }
         requires ascending { IsStrictlyIncreasing bounds.items }
         ensures { result.bounds.items ≡ bounds.items }
     {
@@ -55,15 +59,14 @@ impl<F> Histogram<F> {
 impl<E: Field> Circuit for Histogram<E> {
     ghost use Rattle.flp_circuits.specs.Kinds.{histogram_shape};
     ghost use Rattle.flp_circuits.specs.CircuitLaws.{histogram_keeps, histogram_encodes};
-    ghost use Rattle.std.proofs.Common.{le_trans, lit≤};
 
     type F = E;
 
     ghost shape = { λ c. histogram_shape E.ring c.bounds.items };
 
-    ghost laws = { λ c. histogram_keeps E.laws c.bounds.items (le_trans c.few_bounds (lit≤ tt)) };
+    ghost laws = { λ c. histogram_keeps E.laws c.bounds.items c.few_bounds };
 
-    ghost codes = { λ c. histogram_encodes E.laws c.bounds.items (le_trans c.few_bounds (lit≤ tt)) };
+    ghost codes = { λ c. histogram_encodes E.laws c.bounds.items c.few_bounds };
 
     fn encode(&self, alloc: Global, m: u64) -> Result<Vec<E>, EncodeFault> {
         one_hot_at(alloc, self.input_len(), self.bucket(m)).map_err(|_| EncodeFault::NoMemory)

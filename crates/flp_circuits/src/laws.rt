@@ -2,6 +2,7 @@
 
 ghost use Rattle.std.specs.Prelude.{◌≡◌, ◌+◌, ◌<◌, ◌≤◌, ℕ, List, length};
 ghost use Rattle.std.specs.List.Sorted.{IsStrictlyIncreasing};
+ghost use Rattle.flp_circuits.specs.declared.histogram.TheConstants.{MOST_BOUNDS};
 ghost use Rattle.flp_circuits.specs.Kinds.{count_shape, sum_shape, histogram_shape};
 ghost use Rattle.flp_circuits.specs.Shape.{ShapeLaws, EncodeLaws, IsValid, IsEncoding};
 ghost use Rattle.flp_circuits.specs.StaysValid.{StaysValid, StaysValidAtPairs};
@@ -39,7 +40,7 @@ pub fn only_sums_stay_valid<E: Field>()
 /// elements with each first one, but for as many first ones as it has buckets. Measurements are whole numbers here: one
 /// above the last bound has the last bucket, also where that bound is the greatest u64.
 pub fn only_histograms_stay_valid<E: Field>()
-    ensures { (bounds : List ℕ) (x firsts : List E) (seconds : ℕ → List E) → length bounds ≤ 1023
+    ensures { (bounds : List ℕ) (x firsts : List E) (seconds : ℕ → List E) → length bounds ≤ MOST_BOUNDS
         → IsStrictlyIncreasing bounds → length x ≡ length bounds + 1 → length bounds + 1 < length firsts
         → StaysValidAtPairs E.ring (histogram_shape E.ring bounds) x firsts seconds
         → IsEncoding (histogram_shape E.ring bounds) x }

@@ -1,5 +1,5 @@
 -- The numbers of a task that has a spelling are within their ranges.
-use Rattle.std.proofs.Common.{◌≡◌, ℕ, Bool, true, ◌&&◌, List, [], ◌∷◌, length, Some, None, refl}
+use Rattle.std.proofs.Common.{◌≡◌, ℕ, Bool, true, ◌&&◌, List, [], ◌∷◌, length, Some, None, refl, le_trans, lit≤}
 use Rattle.std.specs.Prelude.{nat_le, nat_lt}
 use Rattle.std.proofs.lemmas.Bool.{leb-true}
 use Rattle.vdaf_api.specs.declared.kind.Kind.{Kind}
@@ -9,7 +9,7 @@ use Rattle.vdaf_api.proofs.Ranges.{increasing-ascends}
 use Rattle.dap_messages.specs.Grammar.{is_between, name}
 use Rattle.dap_messages.specs.Laws.{and_parts, both_true}
 use Rattle.dap_messages.specs.Forms.{any_u64}
-use Rattle.dap_tasks.specs.Task.{AreTaskNumbers}
+use Rattle.vdaf_api.specs.TaskNumbers.{AreTaskNumbers}
 use Rattle.lane_records.specs.declared.stored.StoredTask.{StoredTask}
 use Rattle.lane_records.specs.Bounds.{bound, allowed_bounds}
 use Rattle.lane_records.specs.Stored.{kind, key, keys, stored}
@@ -38,7 +38,7 @@ kind_ranges (Histogram bs) a =
     let ends = between 1 63 (length bs) parts.0 in
     record {
       some = leb-true 1 (length bs) ends.0;
-      few = leb-true (length bs) 63 ends.1;
+      few = le_trans (leb-true (length bs) 63 ends.1) (lit≤ tt);
       ascending = increasing-ascends bs (bounds_ascend bs parts.1);
     }
 

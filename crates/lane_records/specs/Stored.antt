@@ -3,7 +3,7 @@ use Rattle.std.specs.Prelude.{ℕ, ◌+◌, List, Option, Some, None, ◌==◌, 
 use Rattle.std.specs.Int.{w32}
 use Rattle.vdaf_api.specs.declared.kind.Kind.{Kind}
 use Rattle.vdaf_api.specs.declared.kind.Kind.TheVariants.{Count, Sum, Histogram}
-use Rattle.dap_tasks.specs.declared.keys.SealKeys.{SealKeys}
+use Rattle.vdaf_api.specs.declared.keys.SealKeys.{SealKeys}
 use Rattle.dap_bytes.specs.declared.limits.TheConstants.{GREATEST_MINIMUM, GREATEST_PRECISION}
 use Rattle.dap_messages.specs.declared.code.Code.{Code}
 use Rattle.dap_messages.specs.declared.reply.TheConstants.{MOST_OUT}

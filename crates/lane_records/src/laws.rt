@@ -3,7 +3,7 @@
 ghost use Rattle.std.specs.Prelude.{◌≡◌, ℕ, ◌+◌, ◌≤◌, ◌<◌, IsTrue, List, Ok, length};
 ghost use Rattle.std.specs.List.{All};
 ghost use Rattle.dap_messages.specs.Grammar.{whole};
-ghost use Rattle.dap_tasks.specs.Task.{AreTaskNumbers};
+ghost use Rattle.vdaf_api.specs.TaskNumbers.{AreTaskNumbers};
 ghost use Rattle.lane_records.specs.declared.record.Record.{Record};
 ghost use Rattle.lane_records.specs.declared.stored.StoredTask.{StoredTask};
 ghost use Rattle.lane_records.specs.Records.{record_};

@@ -10,9 +10,8 @@ use dap_messages::{
     Form, ReadFault, Spelled, cut_off, is_array, is_name, is_u8, is_u32, put_name, put_slice,
     read_array, read_name, read_u8, read_u32,
 };
-use dap_tasks::SealKeys;
 use std::alloc::{AllocError, Global};
-use vdaf_api::Kind;
+use vdaf_api::{Kind, SealKeys};
 
 /// A task as one node keeps it: with its own keys, and none of the other node's. Its numbers are in the ranges of a
 /// task.

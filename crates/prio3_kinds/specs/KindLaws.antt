@@ -1,5 +1,5 @@
 -- Lemmas: each kind's function keeps the laws.
-use Rattle.std.proofs.Common.{lit≤, ℕ, ◌+◌, ◌-◌, ◌*◌, ◌^◌, ◌≤◌, length, arith}
+use Rattle.std.proofs.Common.{lit≤, le_trans, ℕ, ◌+◌, ◌-◌, ◌*◌, ◌^◌, ◌≤◌, length, arith}
 use Rattle.std.proofs.Math.Nat.{pow-le-pow_right, mul-le-mul}
 use Rattle.field64.specs.Laws.{residues, laws, is_residue_ring}
 use Rattle.field64.specs.Element.{ring_of}
@@ -33,13 +33,13 @@ base128_laws = record {
   room = lit≤ tt;
 }
 
--- few calls have a short proof
-short : (inputs calls arity width : ℕ) → inputs ≤ 64 → calls ≤ 64 → arity ≤ 2 → width ≤ 16 → inputs * width + (arity + (2 * (2 ^ wire_log calls - 1) + 1)) * width + 16 ≤ MOST_LEADER
+-- input and proof of few calls have room in a leader's share
+short : (inputs calls arity width : ℕ) → inputs ≤ 1024 → calls ≤ 1024 → arity ≤ 2 → width ≤ 16 → inputs * width + (arity + (2 * (2 ^ wire_log calls - 1) + 1)) * width + 16 ≤ MOST_LEADER
 short inputs calls arity width hi hc ha hw =
     let few : wire_log calls ≤ 11 = (wire_log_fits calls (omega arith)).1 in
     let power : 2 ^ wire_log calls ≤ 2 ^ 11 = pow-le-pow_right {n = 2} (lit≤ tt) few in
     let long : arity + (2 * (2 ^ wire_log calls - 1) + 1) ≤ 4097 = omega arith in
-    let one : inputs * width ≤ 64 * 16 = mul-le-mul hi hw in
+    let one : inputs * width ≤ 1024 * 16 = mul-le-mul hi hw in
     let two : (arity + (2 * (2 ^ wire_log calls - 1) + 1)) * width ≤ 4097 * 16 = mul-le-mul long hw in
     omega arith
 
@@ -47,8 +47,8 @@ pub kind_laws : (kind : Kind) → IsKind kind → FunctionLaws (functions_of_kin
 kind_laws Count h = prio_laws base64_laws (count_shape ring_of) (count_keeps laws.ring_laws) (count_encodes laws.ring_laws) 0 (answer_of Count) (short 1 1 2 8 (lit≤ tt) (lit≤ tt) (lit≤ tt) (lit≤ tt))
 kind_laws (Sum bits) h =
     prio_laws base128_laws (sum_shape wide.ring_of bits) (sum_keeps wide_laws.laws.ring_laws bits h.0 (omega (arith, h.1))) (sum_encodes wide_laws.laws.ring_laws bits) 1 (answer_of (Sum bits))
-    (short bits bits 1 16 h.1 h.1 (lit≤ tt) (lit≤ tt))
+    (short bits bits 1 16 (le_trans h.1 (lit≤ tt)) (le_trans h.1 (lit≤ tt)) (lit≤ tt) (lit≤ tt))
 kind_laws (Histogram bounds) h =
-    let few : length bounds + 1 ≤ 64 = omega (arith, h.few) in
+    let few : length bounds + 1 ≤ 1024 = omega (arith, h.few) in
     prio_laws base128_laws (histogram_shape wide.ring_of bounds) (histogram_keeps wide_laws.laws.ring_laws bounds (omega arith)) (histogram_encodes wide_laws.laws.ring_laws bounds (omega arith)) 2 (answer_of (Histogram bounds))
     (short (length bounds + 1) (length bounds + 1) 1 16 few few (lit≤ tt) (lit≤ tt))

@@ -121,13 +121,9 @@ fn function(rt: &impl Abort, alloc: Global, kind: Kind) -> Result<Prio3, AllocEr
     Prio3::of(alloc, &kind)
 }
 
-/// 63 bounds, each a thousand above the one before it.
+/// The most bounds that a histogram has: 0 to 1,022.
 fn widest(alloc: Global) -> Result<Bounds, AllocError> {
-    let mut bounds = Vec::new(alloc);
-    for i in 0..63_u64 {
-        bounds.push(1000 * i + 5)?;
-    }
-    Ok(Bounds::new(bounds))
+    Ok(Bounds::new((0..1023).collect(alloc)?))
 }
 
 #[test]
@@ -202,18 +198,32 @@ fn each_step_of_a_histogram_is_the_references(rt: HostRuntime) -> Result<(), Fai
         0xeba32b652250591bcdb861d4fa05aeb5,
         0x98e3b24385121f1a57aa150771b4106a,
     ];
-    let large = [
-        0x17006bee9d09a5b9a111bc6b852d95ce,
-        0xa22f85d1a0c3526885b4d798410e53db,
+    let last_bound = [
+        0xe9e29db09ccfa7a667cd9fb6390ce9e8,
+        0x6fb32e7cd5ef13c7bfba2eeba5f31501,
         0x6d1d9463175ac7541fc9a1e820594d8a,
-        0x8ede6cd59af2d02e4f513e7ba42e516f,
-        0x97f33a32caee649b317d41aa49edad42,
-        0x22af91f30509d6e04ce9201b3ccafbf7,
-        0xaca08c71198e64b3beb0d168349996f6,
-        0xc3e0827e19f460c3c44a55d306e37782,
+        0xf6ab5aa70e435c23111eadb9feb12e60,
+        0x3b83ee2ef92b6a6ed7bb1d6e66480b30,
+        0xdc283214c716cd80fb2b1b3be7b0f157,
+        0xf9cd6a94c18f8701b0525ea0f9768fb0,
+        0x5a425166ee3cc820a0a704bdd0d82c59,
+    ];
+    let above = [
+        0xebda9a44aab87c2a258b9dd800fb05de,
+        0x28e0e67372139cbacdfc9bdbe5b8ced8,
+        0x6d1d9463175ac7541fc9a1e820594d8a,
+        0x1837af9c4a0c703c36f2ea05189081bd,
+        0x475fbb7cdf997db28610c5038d85d5b5,
+        0xecfd017fb431500a15c167752ae786e4,
+        0x9f674c374b06b20d3ec0bb5762d5a728,
+        0x5a425166ee3cc820a0a704bdd0d82c59,
     ];
     let three = Bounds::new([10, 20, 30].to_vec(alloc)?);
-    for (bounds, m, tags, place) in [(three, 20, small, 1), (widest(alloc)?, 62_006, large, 63)] {
+    for (bounds, m, tags, place) in [
+        (three, 20, small, 1),
+        (widest(alloc)?, 1022, last_bound, 1022),
+        (widest(alloc)?, 5000, above, 1023),
+    ] {
         let mut wanted = Vec::new(alloc);
         for i in 0..=bounds.len() {
             wanted.push(u128::from(i == place))?;

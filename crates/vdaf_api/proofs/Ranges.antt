@@ -9,6 +9,7 @@ use Rattle.std.proofs.lemmas.Bool.Decides.{nat_tests}
 use native.Mathlib.Numerals.{add-one}
 use Rattle.vdaf_api.specs.declared.kind.Kind.{Kind}
 use Rattle.vdaf_api.specs.declared.kind.Kind.TheVariants.{Count, Sum, Histogram}
+use Rattle.vdaf_api.specs.declared.kind.TheConstants.{MOST_BITS, MOST_BOUNDS}
 use Rattle.vdaf_api.specs.Kind.{ascends_from, ascends, is_kind, IsKind}
 
 -- each pair of neighbours passes the test
@@ -54,18 +55,18 @@ ascends-answer xs false h = go (ascends xs) refl
 pub is_kind-decides : (kind : Kind) → IsTrue (is_kind kind) ↔ IsKind kind
 is_kind-decides Count = (λ t. tt, λ k. refl)
 is_kind-decides (Sum bits) = (
-  λ t. (let both = and_parts (nat_le 1 bits) (nat_le bits 64) t in let first : nat_le 1 bits ≡ true = both.0 in let second : nat_le bits 64 ≡ true = both.1 in (grind (arith, nat_tests), grind (arith, nat_tests))),
-  λ k. (let first : 1 ≤ bits = k.0 in let second : bits ≤ 64 = k.1 in and_from (nat_le 1 bits) (nat_le bits 64) (grind (arith, nat_tests)) (grind (arith, nat_tests))),
+  λ t. (let both = and_parts (nat_le 1 bits) (nat_le bits MOST_BITS) t in let first : nat_le 1 bits ≡ true = both.0 in let second : nat_le bits MOST_BITS ≡ true = both.1 in (grind (arith, nat_tests), grind (arith, nat_tests))),
+  λ k. (let first : 1 ≤ bits = k.0 in let second : bits ≤ MOST_BITS = k.1 in and_from (nat_le 1 bits) (nat_le bits MOST_BITS) (grind (arith, nat_tests)) (grind (arith, nat_tests))),
 )
 is_kind-decides (Histogram bounds) = (
-  λ t. (let all = and_parts (nat_le 1 (length bounds) && nat_le (length bounds) 63) (ascends bounds) t in
-      let sizes = and_parts (nat_le 1 (length bounds)) (nat_le (length bounds) 63) all.0 in
+  λ t. (let all = and_parts (nat_le 1 (length bounds) && nat_le (length bounds) MOST_BOUNDS) (ascends bounds) t in
+      let sizes = and_parts (nat_le 1 (length bounds)) (nat_le (length bounds) MOST_BOUNDS) all.0 in
       let first : nat_le 1 (length bounds) ≡ true = sizes.0 in
-      let second : nat_le (length bounds) 63 ≡ true = sizes.1 in
+      let second : nat_le (length bounds) MOST_BOUNDS ≡ true = sizes.1 in
       record { some = grind (arith, nat_tests); few = grind (arith, nat_tests); ascending = increasing-ascends bounds all.1 }),
   λ k. (let first : 1 ≤ length bounds = k.some in
-      let second : length bounds ≤ 63 = k.few in
-      and_from (nat_le 1 (length bounds) && nat_le (length bounds) 63) (ascends bounds)
-      (and_from (nat_le 1 (length bounds)) (nat_le (length bounds) 63) (grind (arith, nat_tests)) (grind (arith, nat_tests)))
+      let second : length bounds ≤ MOST_BOUNDS = k.few in
+      and_from (nat_le 1 (length bounds) && nat_le (length bounds) MOST_BOUNDS) (ascends bounds)
+      (and_from (nat_le 1 (length bounds)) (nat_le (length bounds) MOST_BOUNDS) (grind (arith, nat_tests)) (grind (arith, nat_tests)))
       (ascends-increasing bounds k.ascending)),
 )

@@ -1,4 +1,5 @@
 pub mod Kind
+pub mod TaskNumbers
 pub mod Role
 pub mod Vectors
 pub mod VectorLaws

@@ -8,7 +8,7 @@ use crate::bounds::Bounds;
 pub const MOST_BITS: u8 = 64;
 
 /// The most bounds of a histogram.
-pub const MOST_BOUNDS: usize = 63;
+pub const MOST_BOUNDS: usize = 1023;
 
 /// What a task measures: how many measurements of 0 and 1 are 1; the sum of numbers of `bits` bits, 1 to [`MOST_BITS`];
 /// or how many numbers fall into each bucket, a number into the first whose bound it is not above, or into the last,

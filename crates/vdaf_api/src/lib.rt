@@ -7,6 +7,7 @@ mod adding;
 mod answer;
 mod bounds;
 mod fault;
+mod keys;
 mod kind;
 mod laws;
 mod numbers;
@@ -21,6 +22,7 @@ pub use adding::is_vector;
 pub use answer::{Answer, Collected};
 pub use bounds::Bounds;
 pub use fault::{PrepFault, ShardFault};
+pub use keys::SealKeys;
 pub use kind::{Kind, MOST_BITS, MOST_BOUNDS};
 pub use laws::{
     forms_are_needed, honest_reports_are_counted, lengths_are_bounded, out_shares_add_to_contents,

@@ -2,6 +2,7 @@
 
 use super::{THREE_REPORTS, check_call, task_lines};
 use load_maker::load_script;
+use std::alloc::Global;
 use std::test::Fail;
 
 /// Scripts and what they print.
@@ -197,6 +198,41 @@ collect v 0
 fn scripts_print_what_the_model_says(rt: HostRuntime) -> Result<(), Fail> {
     for (script, text) in &PRINTED {
         check_call(&rt, rt.alloc(), &["run"], &[], script, (0, "done"), text)?;
+    }
+    Ok(())
+}
+
+/// The script of a histogram with so many bounds, but at least one: 0, 1, 2 and so on, and the measurements 1022 and
+/// 5000.
+fn histogram_script(alloc: Global, size: u32) -> Result<String, Fail> {
+    let mut script = String::from_str(alloc, "task h histogram 0")?;
+    for bound in 1..size {
+        script.push_str(format!(in alloc; ",{bound}")?.as_str())?;
+    }
+    script.push_str(
+        " 1 3600
+measure h 00000000000000000000000000000001 1 1022 00000000000000000000000000000001
+measure h 00000000000000000000000000000002 2 5000 00000000000000000000000000000002
+collect h 0
+",
+    )?;
+    Ok(script)
+}
+
+#[test]
+fn the_widest_histogram_has_1024_numbers(rt: HostRuntime) -> Result<(), Fail> {
+    let alloc = rt.alloc();
+    let mut printed = String::from_str(alloc, "collected h 0 reports 2 rejected 0 histogram ")?;
+    for _ in 0..1022 {
+        printed.push_str("0,")?;
+    }
+    printed.push_str("1,1\n")?;
+    for (size, status, text) in [
+        (1023, (0, "done"), printed.as_str()),
+        (1024, (3, "script refused: line 1"), ""),
+    ] {
+        let script = histogram_script(alloc, size)?;
+        check_call(&rt, alloc, &["run"], &[], script.as_str(), status, text)?;
     }
     Ok(())
 }

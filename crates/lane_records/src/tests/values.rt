@@ -4,10 +4,9 @@ use super::{RECORDS, spelling};
 use crate::{Answered, Closed, Outcome, Record, Request, Response, StoredTask};
 use dap_bytes::{Bytes, Name};
 use dap_messages::{Code, Half, Items, JobNo, Reply, Report, Spelled, Step, Tagged};
-use dap_tasks::SealKeys;
 use std::alloc::Global;
 use std::test::Fail;
-use vdaf_api::{Bounds, Kind};
+use vdaf_api::{Bounds, Kind, SealKeys};
 
 fn name(text: &[u8]) -> Result<Name, Fail> {
     match Name::new(text) {

@@ -8,10 +8,9 @@ pub use Made::{
 };
 use dap_bytes::{Bytes, Name};
 use dap_messages::{Code, Half, Items, JobNo, Reply, Report, Step, Tagged};
-use dap_tasks::SealKeys;
 use std::alloc::Global;
 use std::test::Fail;
-use vdaf_api::Kind;
+use vdaf_api::{Kind, SealKeys};
 
 /// A job's lane, incarnation and counter.
 type Job = (u8, u64, u64);

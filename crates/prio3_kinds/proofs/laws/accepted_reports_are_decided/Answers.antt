@@ -19,5 +19,5 @@ returns-clause-sum c bits h = decided base128_laws (sum_shape wide.ring_of bits)
 
 pub returns-clause-histogram : goal.returns-clause-histogram
 returns-clause-histogram c bounds h =
-    let few : length bounds + 1 ≤ 64 = omega (arith, h.few) in
+    let few : length bounds + 1 ≤ 1024 = omega (arith, h.few) in
     decided base128_laws (histogram_shape wide.ring_of bounds) (histogram_keeps wide_laws.laws.ring_laws bounds (omega arith)) 2 (answer_of (Histogram bounds))
