@@ -15,7 +15,7 @@ use Rattle.dap_messages.specs.declared.body.Status.TheVariants as statuses
 use Rattle.dap_messages.specs.declared.reply.TheConstants.{MOST_OUT}
 use Rattle.dap_messages.specs.declared.reply.Reply.{Reply}
 use Rattle.dap_messages.specs.declared.reply.Reply.TheVariants as replies
-use Rattle.dap_messages.specs.Grammar.{Grammar, number, byte, any_text, nothing, ◌⊗◌, variant, bytes, name}
+use Rattle.dap_messages.specs.Grammar.{Grammar, number, byte, any_text, nothing, ◌⊗◌, bytes, name}
 use Rattle.dap_messages.specs.Lawful.{Lawful}
 use Rattle.dap_messages.specs.Laws.{number_lawful, byte_lawful, coded_lawful, cells_lawful, nothing_lawful, then_lawful, shaped_lawful, sized_lawful, by_first_lawful, IsChoice, choice, one_of, none_of, wide16, wide32, wide64, and_parts, some_is}
 use Rattle.dap_messages.specs.Forms.{any_u8, any_u32, any_u64, time, checksum, job, code_of, byte_of, code, half, continued_of, failed_of, first_of_step, step_by, step, finished_of, unfinished_of, first_of_status, status_by, status, share_of, total_of, mismatch_of, first_of_reply, reply_by, reply}

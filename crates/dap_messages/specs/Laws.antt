@@ -399,18 +399,25 @@ one_of {A} first_of longest b first g others h here there e = go (nat_eq b first
 pub none_of : {A : Type 0} (first_of : A → ℕ) (longest b : ℕ) (h : Grammar A) → (let n : Option (Grammar A) = None in n) ≡ Some h → IsChoice first_of longest b h
 none_of first_of longest b h e = absurd cc
 
--- where the fields of a variant keep the laws, and each of its values has the first byte, so does the variant
-pub choice : {A B : Type 0} (first_of : B → ℕ) (longest first : ℕ) (to : A → B) (from : B → Option A) (g : Grammar A)
-    → ((x : A) → from (to x) ≡ Some x) → ((b : B) (x : A) → from b ≡ Some x → to x ≡ b) → ((x : A) → first_of (to x) ≡ first)
+-- where the fields of a variant keep the laws, and each of its values that they allow has the first byte, so does the variant
+pub choice_allowed : {A B : Type 0} (first_of : B → ℕ) (longest first : ℕ) (to : A → B) (from : B → Option A) (g : Grammar A)
+    → ((x : A) → from (to x) ≡ Some x) → ((b : B) (x : A) → from b ≡ Some x → to x ≡ b) → ((x : A) → g.allowed x ≡ true → first_of (to x) ≡ first)
     → Lawful g → g.most ≤ longest → IsChoice first_of longest first (variant to from g)
-choice {A} {B} first_of longest first to from g back only begins lawful within = record {
+choice_allowed {A} {B} first_of longest first to from g back only begins lawful within = record {
   lawful = variant_lawful to from g back only lawful;
   stands = λ b a. has_first b (from b) refl a;
   within = within;
 } where
   has_first : (b : B) (o : Option A) → from b ≡ o → allowed_some g o ≡ true → first_of b ≡ first
   has_first b None is a = absurd cc
-  has_first b (Some x) is a = ap first_of (sym (only b x is)) ∙ begins x
+  has_first b (Some x) is a = ap first_of (sym (only b x is)) ∙ begins x a
+
+-- the same where each value has the first byte
+pub choice : {A B : Type 0} (first_of : B → ℕ) (longest first : ℕ) (to : A → B) (from : B → Option A) (g : Grammar A)
+    → ((x : A) → from (to x) ≡ Some x) → ((b : B) (x : A) → from b ≡ Some x → to x ≡ b) → ((x : A) → first_of (to x) ≡ first)
+    → Lawful g → g.most ≤ longest → IsChoice first_of longest first (variant to from g)
+choice first_of longest first to from g back only begins lawful within =
+    choice_allowed first_of longest first to from g back only (λ x a. begins x) lawful within
 
 -- ---- lists of items
 

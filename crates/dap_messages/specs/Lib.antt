@@ -9,4 +9,6 @@ pub mod Lawful
 pub mod Laws
 pub mod MessageLaws
 pub mod Messages
+pub mod ShareLaws
+pub mod Shares
 pub mod Spelled

@@ -5,6 +5,7 @@
 
 mod body;
 mod code;
+mod extent;
 mod fault;
 mod fields;
 mod item;
@@ -14,10 +15,12 @@ mod message;
 mod reading;
 mod reply;
 mod report;
+mod share;
 mod spelled;
 
 pub use body::{Half, MOST_HELPER, MOST_PREP, MOST_PUBLIC, Status, Step};
 pub use code::Code;
+pub use extent::{Extent, is_span, put_span, read_span};
 pub use fault::{Form, ReadFault};
 pub use fields::{
     are_bytes, cut_off, is_array, is_name, is_u8, is_u32, is_u64, put_bytes, put_name, put_slice,
@@ -30,6 +33,7 @@ pub use message::{MOST_MESSAGE, Message, read_init_req};
 pub use reading::{read_message, read_report, write_message, write_report};
 pub use reply::{MOST_OUT, Reply};
 pub use report::{MOST_LEADER, MOST_REPORT, Report};
+pub use share::{ShareReq, ShareResp};
 pub use spelled::{Spelled, read_all, write_all};
 
 #[cfg(test)]

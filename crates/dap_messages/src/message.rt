@@ -1,21 +1,17 @@
 //! Messages between the two aggregators.
 
-ghost use Rattle.std.specs.Prelude.{◌≡◌, ◌++◌, IsTrue, OnOk};
 ghost use Rattle.dap_messages.specs.Spelled.{Gives};
-ghost use Rattle.dap_messages.specs.declared.message.Message.TheVariants.{ShareReq};
-ghost use Rattle.dap_messages.specs.Messages.{init_req, init_resp, cont_req, cont_resp, share_req, share_resp};
+ghost use Rattle.dap_messages.specs.Messages.{init_req, init_resp, cont_req, cont_resp, request, response};
 
 use crate::body::{Half, Status, Step};
+use crate::extent::Extent;
 use crate::fault::ReadFault;
-use crate::fields::{
-    cut_off, is_array, is_name, is_u32, is_u64, put_name, put_slice, read_array, read_name,
-    read_u32, read_u64,
-};
+use crate::fields::{cut_off, is_name, put_name, read_name};
 use crate::item::Items;
 use crate::job::JobNo;
-use crate::reply::Reply;
+use crate::share::{ShareReq, ShareResp};
 use crate::spelled::Spelled;
-use dap_bytes::{Cursor, LATEST_TIME, Name, put_u8, put_u32, put_u64};
+use dap_bytes::{Cursor, Name, put_u8};
 use std::alloc::{AllocError, Global};
 
 /// The most bytes of a message.
@@ -32,11 +28,10 @@ pub enum Message {
     ContReq(JobNo, Items<Step>),
     /// The outcome of each report of a job.
     ContResp(JobNo, Items<Status>),
-    /// The leader asks for the helper's share of a batch: the task's name, the batch's start, and the count and the
-    /// checksum of the reports that the leader finished in it.
-    ShareReq(Name, u64, u32, [u8; 32]),
-    /// The helper's answer for the batch of a task and a start.
-    ShareResp(Name, u64, Reply),
+    /// The leader asks for the helper's share of a batch.
+    ShareReq(ShareReq),
+    /// The helper's answer for a batch.
+    ShareResp(ShareResp),
 }
 
 impl Spelled for Message {
@@ -55,12 +50,15 @@ impl Spelled for Message {
             Some(2) => read_init_resp(alloc, cursor),
             Some(3) => read_cont_req(alloc, cursor),
             Some(4) => read_cont_resp(alloc, cursor),
-            Some(5) => read_share_req(cursor),
-            Some(6) => read_share_resp(alloc, cursor),
+            Some(5) => read_share_req(cursor, Extent::Single),
+            Some(6) => read_share_resp(alloc, cursor, Extent::Single),
+            Some(7) => read_share_req(cursor, Extent::Several),
+            Some(8) => read_share_resp(alloc, cursor, Extent::Several),
             Some(_) => Err(ReadFault::Form { at }),
         }
     }
 
+    #[tactic(auto, using(crate::specs::ShareLaws::message_spells_request, crate::specs::ShareLaws::message_spells_response, crate::specs::ShareLaws::message_allows_request, crate::specs::ShareLaws::message_allows_response,))]
     fn put(&self, out: &mut Vec<u8>) -> Result<(), AllocError> {
         match self {
             Message::InitReq(job, name, halves) => {
@@ -84,19 +82,12 @@ impl Spelled for Message {
                 job.put(out)?;
                 statuses.put(out)
             }
-            Message::ShareReq(name, start, count, checksum) => {
-                put_u8(out, 5)?;
-                put_share_req(out, name, *start, *count, checksum)
-            }
-            Message::ShareResp(name, start, reply) => {
-                put_u8(out, 6)?;
-                put_name(out, name)?;
-                put_u64(out, *start)?;
-                reply.put(out)
-            }
+            Message::ShareReq(request) => request.put(out),
+            Message::ShareResp(response) => response.put(out),
         }
     }
 
+    #[tactic(auto, using(crate::specs::ShareLaws::message_allows_request, crate::specs::ShareLaws::message_allows_response,))]
     fn is_allowed(&self) -> bool {
         match self {
             Message::InitReq(job, name, halves) => {
@@ -106,15 +97,8 @@ impl Spelled for Message {
                 job.is_allowed() && steps.is_allowed()
             }
             Message::ContResp(job, statuses) => job.is_allowed() && statuses.is_allowed(),
-            Message::ShareReq(name, start, count, checksum) => {
-                is_name(name)
-                    && is_u64(*start, 0, LATEST_TIME)
-                    && is_u32(*count, 0, u32::MAX)
-                    && is_array(checksum)
-            }
-            Message::ShareResp(name, start, reply) => {
-                is_name(name) && is_u64(*start, 0, LATEST_TIME) && reply.is_allowed()
-            }
+            Message::ShareReq(request) => request.is_allowed(),
+            Message::ShareResp(response) => response.is_allowed(),
         }
     }
 }
@@ -153,37 +137,20 @@ fn read_cont_resp(alloc: Global, cursor: &mut Cursor<'_>) -> Result<Message, Rea
     Ok(Message::ContResp(job, statuses))
 }
 
-fn read_share_req(cursor: &mut Cursor<'_>) -> Result<Message, ReadFault>
-    ensures { Gives share_req cursor.old result cursor.new }
+fn read_share_req(cursor: &mut Cursor<'_>, extent: Extent) -> Result<Message, ReadFault>
+    ensures { Gives (request extent) cursor.old result cursor.new }
 {
-    let name = read_name(cursor)?;
-    let start = read_u64(cursor, 0, LATEST_TIME)?;
-    let count = read_u32(cursor, 0, u32::MAX)?;
-    let checksum = read_array(cursor)?;
-    Ok(Message::ShareReq(name, start, count, checksum))
+    let request = ShareReq::read_as(cursor, extent)?;
+    Ok(Message::ShareReq(request))
 }
 
-fn put_share_req(
-    out: &mut Vec<u8>,
-    name: &Name,
-    start: u64,
-    count: u32,
-    checksum: &[u8; 32],
-) -> Result<(), AllocError>
-    ensures { OnOk result (out.new.items
-        ≡ out.old.items ++ share_req.spell (ShareReq name.now start count checksum.now)) }
+fn read_share_resp(
+    alloc: Global,
+    cursor: &mut Cursor<'_>,
+    extent: Extent,
+) -> Result<Message, ReadFault>
+    ensures { Gives (response extent) cursor.old result cursor.new }
 {
-    put_name(out, name)?;
-    put_u64(out, start)?;
-    put_u32(out, count)?;
-    put_slice(out, checksum)
-}
-
-fn read_share_resp(alloc: Global, cursor: &mut Cursor<'_>) -> Result<Message, ReadFault>
-    ensures { Gives share_resp cursor.old result cursor.new }
-{
-    let name = read_name(cursor)?;
-    let start = read_u64(cursor, 0, LATEST_TIME)?;
-    let reply = Reply::read(alloc, cursor)?;
-    Ok(Message::ShareResp(name, start, reply))
+    let response = ShareResp::read_as(alloc, cursor, extent)?;
+    Ok(Message::ShareResp(response))
 }

@@ -1,4 +1,5 @@
 use super::*;
+use dap_bytes::{Name, Span};
 use std::alloc::Global;
 use std::test::Fail;
 
@@ -73,6 +74,22 @@ const SHARE_RESP: [u8; 48] = [
     13, 14, 15, 16, 17, 18, 19, 20, 21, 22, 23, 24, 25, 26, 27, 28, 29, 30, 31, 32,
 ];
 
+/// The same of a batch of 3 buckets, and of 64.
+const WIDE_REQ: [u8; 48] = [
+    7, 1, 0x61, 0, 0, 0, 0, 0, 0, 0x0e, 0x10, 3, 0, 0, 0, 3, 1, 2, 3, 4, 5, 6, 7, 8, 9, 10, 11, 12,
+    13, 14, 15, 16, 17, 18, 19, 20, 21, 22, 23, 24, 25, 26, 27, 28, 29, 30, 31, 32,
+];
+
+const WIDE_RESP: [u8; 49] = [
+    8, 1, 0x61, 0, 0, 0, 0, 0, 0, 0x0e, 0x10, 64, 2, 0, 0, 0, 3, 1, 2, 3, 4, 5, 6, 7, 8, 9, 10, 11,
+    12, 13, 14, 15, 16, 17, 18, 19, 20, 21, 22, 23, 24, 25, 26, 27, 28, 29, 30, 31, 32,
+];
+
+/// Their faults, as above.
+const WIDE_REQ_FAULTS: [(usize, usize); 5] = [(0, 0), (1, 1), (2, 2), (3, 3), (11, 11)];
+
+const WIDE_RESP_FAULTS: [(usize, usize); 6] = [(0, 0), (1, 1), (2, 2), (3, 3), (11, 11), (12, 12)];
+
 /// The share `9` of the batch of `a` at 0.
 const SHARE: [u8; 17] = [6, 1, 0x61, 0, 0, 0, 0, 0, 0, 0, 0, 0, 0, 0, 0, 1, 9];
 
@@ -111,29 +128,99 @@ fn again(alloc: Global, bytes: &[u8]) -> Result<Vec<u8>, Fail> {
     }
 }
 
+/// The first length to which a message is cut without a fault at its end.
+fn wrong_cut(alloc: Global, bytes: &[u8]) -> Result<Option<usize>, Fail> {
+    for len in 0..bytes.len() {
+        if fault_of(alloc, &bytes[..len])? != Some(len) {
+            return Ok(Some(len));
+        }
+    }
+    Ok(None)
+}
+
+/// The first byte of a message that replaced by ff has another fault than the table gives.
+fn wrong_change(
+    alloc: Global,
+    bytes: &[u8],
+    table: &[(usize, usize)],
+) -> Result<Option<usize>, Fail> {
+    for byte in 0..bytes.len() {
+        let mut changed = bytes.to_vec(alloc)?;
+        changed[byte] = 0xff;
+        if fault_of(alloc, &changed)? != place_for(table, byte) {
+            return Ok(Some(byte));
+        }
+    }
+    Ok(None)
+}
+
 #[test]
 fn a_message_cut_or_changed_names_the_first_fault(rt: HostRuntime) -> Result<(), Fail> {
     let alloc = rt.alloc();
-    assert_eq!(rt; fault_of(alloc, &INIT_REQ)?, None);
-    for len in 0..INIT_REQ.len() {
-        assert_eq!(rt;
-            fault_of(alloc, &INIT_REQ[..len])?,
-            Some(len),
-            "cut at {len}"
-        );
+    for (bytes, table) in [
+        (INIT_REQ.as_slice(), FAULTS.as_slice()),
+        (WIDE_REQ.as_slice(), WIDE_REQ_FAULTS.as_slice()),
+        (WIDE_RESP.as_slice(), WIDE_RESP_FAULTS.as_slice()),
+    ] {
+        assert_eq!(rt; fault_of(alloc, bytes)?, None);
+        assert_eq!(rt; wrong_cut(alloc, bytes)?, None);
+        assert_eq!(rt; wrong_change(alloc, bytes, table)?, None);
+        let mut longer = bytes.to_vec(alloc)?;
+        longer.push(0)?;
+        assert_eq!(rt; fault_of(alloc, &longer)?, Some(bytes.len()));
     }
-    for byte in 0..INIT_REQ.len() {
-        let mut changed = INIT_REQ;
-        changed[byte] = 0xff;
-        assert_eq!(rt;
-            fault_of(alloc, &changed)?,
-            place_for(&FAULTS, byte),
-            "ff at {byte}"
-        );
+    Ok(())
+}
+
+#[test]
+fn a_wide_form_has_2_to_64_buckets(rt: HostRuntime) -> Result<(), Fail> {
+    let alloc = rt.alloc();
+    for bytes in [WIDE_REQ.as_slice(), WIDE_RESP.as_slice()] {
+        for (buckets, place) in [
+            (0, Some(11)),
+            (1, Some(11)),
+            (2, None),
+            (64, None),
+            (65, Some(11)),
+        ] {
+            let text = spliced(alloc, bytes, 11, &[buckets], 12)?;
+            assert_eq!(rt; fault_of(alloc, &text)?, place, "{buckets} buckets");
+        }
     }
-    let mut longer = INIT_REQ.to_vec(alloc)?;
-    longer.push(0)?;
-    assert_eq!(rt; fault_of(alloc, &longer)?, Some(54));
+    Ok(())
+}
+
+#[test]
+fn a_batch_of_1_to_64_buckets_has_a_form(rt: HostRuntime) -> Result<(), Fail> {
+    let alloc = rt.alloc();
+    for (buckets, allowed, form) in [
+        (0, false, Extent::Several),
+        (1, true, Extent::Single),
+        (2, true, Extent::Several),
+        (64, true, Extent::Several),
+        (65, false, Extent::Several),
+    ] {
+        let span = Span { start: 0, buckets };
+        assert_eq!(rt; (is_span(&span), Extent::of(&span)), (allowed, form));
+    }
+    let Some(name) = Name::new(b"a") else {
+        return Err("no name".into());
+    };
+    let span = Span {
+        start: 3600,
+        buckets: 2,
+    };
+    let request = ShareReq {
+        name,
+        span,
+        count: 0,
+        checksum: [0; 32],
+    };
+    let text = write_all(alloc, &request)?;
+    assert_eq!(rt;
+        &text.as_slice()[..12],
+        [7, 1, 0x61, 0, 0, 0, 0, 0, 0, 0x0e, 0x10, 2].as_slice()
+    );
     Ok(())
 }
 
@@ -183,6 +270,8 @@ fn each_form_is_read_and_written_again(rt: HostRuntime) -> Result<(), Fail> {
         CONT_RESP.as_slice(),
         SHARE_REQ.as_slice(),
         SHARE_RESP.as_slice(),
+        WIDE_REQ.as_slice(),
+        WIDE_RESP.as_slice(),
         [6, 1, 0x61, 0, 0, 0, 0, 0, 0, 0, 0, 1, 0, 0, 0, 2].as_slice(),
         SHARE.as_slice(),
     ] {
@@ -261,6 +350,8 @@ fn the_latest_time_is_read(rt: HostRuntime) -> Result<(), Fail> {
         (INIT_REQ.as_slice(), 38, 46),
         (SHARE_REQ.as_slice(), 3, 11),
         (SHARE_RESP.as_slice(), 3, 11),
+        (WIDE_REQ.as_slice(), 3, 11),
+        (WIDE_RESP.as_slice(), 3, 11),
     ] {
         let latest = spliced(alloc, bytes, at, &LATEST, from)?;
         assert_eq!(rt; again(alloc, &latest)?.as_slice(), latest.as_slice());
@@ -324,21 +415,28 @@ fn is_as_said(message: &Message) -> bool {
                 && one.body == Status::Finished
                 && two.body == Status::Failed(Code::BatchCollected)
         }
-        Message::ShareReq(name, start, count, checksum) => {
-            name.as_bytes() == b"a".as_slice()
-                && (*start, *count) == (3600, 3)
-                && checksum.as_slice() == &SHARE_REQ[15..]
+        Message::ShareReq(request) => {
+            is_of(&request.name, request.span) && is_counted(request.count, &request.checksum)
         }
-        Message::ShareResp(name, start, Reply::Mismatch(count, checksum)) => {
-            name.as_bytes() == b"a".as_slice()
-                && (*start, *count) == (3600, 3)
-                && checksum.as_slice() == &SHARE_REQ[15..]
-        }
-        Message::ShareResp(_, start, Reply::Share(share)) => {
-            *start == 0 && share.as_slice() == [9].as_slice()
-        }
-        Message::ShareResp(_, _, Reply::Small(_)) => false,
+        Message::ShareResp(response) => match &response.reply {
+            Reply::Mismatch(count, checksum) => {
+                is_of(&response.name, response.span) && is_counted(*count, checksum)
+            }
+            Reply::Share(share) => {
+                response.span.start == 0 && share.as_slice() == [9].as_slice()
+            }
+            Reply::Small(_) => false,
+        },
     }
+}
+
+/// Whether it is one of the batches of `a` at 3600 above.
+fn is_of(name: &Name, span: Span) -> bool {
+    name.as_bytes() == b"a".as_slice() && span.start == 3600 && matches!(span.buckets, 1 | 3 | 64)
+}
+
+fn is_counted(count: u32, checksum: &[u8; 32]) -> bool {
+    count == 3 && checksum.as_slice() == &SHARE_REQ[15..]
 }
 
 #[test]
@@ -350,6 +448,8 @@ fn fields_are_in_their_order(rt: HostRuntime) -> Result<(), Fail> {
         CONT_RESP.as_slice(),
         SHARE_REQ.as_slice(),
         SHARE_RESP.as_slice(),
+        WIDE_REQ.as_slice(),
+        WIDE_RESP.as_slice(),
         SHARE.as_slice(),
     ] {
         match read_message(alloc, bytes) {
