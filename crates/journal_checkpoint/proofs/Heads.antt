@@ -1,10 +1,12 @@
 -- What tells a file's generation, and what each change of a head leaves of it.
-use Rattle.std.proofs.Common.{◌≡◌, ◌≢◌, ◌⊎◌, inl, inr, ℕ, suc, ◌+◌, ◌≤◌, ◌<◌, ◌^◌, ◌==◌, min, max, nat_le, Bool, true, false, ◌&&◌, if◌then◌else◌, List, [], ◌∷◌, ◌++◌, length, get_or, take, drop, refl, sym, ◌∙◌, ap, subst, arith, length-append, length-take, length-take-le, length-drop, le-leb}
+use Rattle.std.proofs.Common.{◌≡◌, ◌≢◌, ◌⊎◌, inl, inr, ℕ, suc, ◌+◌, ◌≤◌, ◌<◌, ◌^◌, ◌==◌, Bool, true, false, ◌&&◌, if◌then◌else◌, List, [], ◌∷◌, length, get_or, take, drop, refl, sym, ◌∙◌, ap, subst, arith, length-take, length-drop, le-leb}
 use Rattle.std.proofs.lemmas.List.{drop-take, get_or-take}
 use Rattle.std.proofs.lemmas.Bool.{cases_lt, cases_eq, lt-leb, ne_eqb, eq-eqb}
 use Rattle.std.proofs.lemmas.Nat.{from_be_bytes-to_be_bytes_8, be_bytes_8}
-use Rattle.std.specs.Int.{to_be_bytes, from_be_bytes, w64}
+use Rattle.std.specs.Int.{from_be_bytes, w64}
+use Rattle.dap_disk.specs.Disk.{Torn, Shortened}
 use Rattle.journal_checkpoint.specs.Heads.{head, generation_of, start_of, front_of, journal_of, pair_journal, in_order, IsOlder}
+use Rattle.journal_checkpoint.specs.Packing.{KeepsGeneration}
 
 -- the generation, by the file's first nine bytes
 abbrev in_front : List ℕ → ℕ
@@ -122,3 +124,53 @@ live_journal true x y g s is start older =
 live_journal false x y g s is start older =
     ap (λ (b : Bool). if b then journal_of x else journal_of y) (le-leb (generation_of y) (generation_of x) (omega (arith, is, older)))
     ∙ ap (λ (n : ℕ). drop (start_of n) x) is ∙ ap (λ (n : ℕ). drop n x) (sym start)
+
+-- the same, where the other file has the next generation
+pub next_journal : (second : Bool) (x y : List ℕ) (g : ℕ) → generation_of x ≡ g → generation_of y ≡ g + 1 → in_order second pair_journal x y ≡ drop 9 y
+next_journal true x y g is next =
+    ap (λ (b : Bool). if b then journal_of y else journal_of x) (le-leb (generation_of x) (generation_of y) (omega (arith, is, next)))
+    ∙ ap (λ (n : ℕ). drop (start_of n) y) next ∙ ap (λ (n : ℕ). drop n y) (start_later (g + 1) (omega arith))
+next_journal false x y g is next =
+    ap (λ (b : Bool). if b then journal_of x else journal_of y) (lt-leb (generation_of y) (generation_of x) (omega (arith, is, next)))
+    ∙ ap (λ (n : ℕ). drop (start_of n) y) next ∙ ap (λ (n : ℕ). drop n y) (start_later (g + 1) (omega arith))
+
+-- a write of the first byte leaves the head or none
+pub first_torn : (P : List ℕ → Type 0) (d c : List ℕ) → P d → 9 ≤ length d → get_or d 0 0 ≡ 2 → Torn 0 1 d c → KeepsGeneration P c
+first_torn P d c was long two torn = elim (cases_eq (get_or c 0 0) 2) [
+  | inl is ↦ inr (d, was, same_head c d (omega (arith, long, torn.no_shorter)) long (front c d (omega (arith, long, torn.no_shorter)) long (is ∙ sym two) torn.after))
+  | inr ne ↦ inl (none_other c ne)
+]
+  where
+    front : (c d : List ℕ) → 9 ≤ length c → 9 ≤ length d → get_or c 0 0 ≡ get_or d 0 0 → drop 1 c ≡ drop 1 d → take 9 c ≡ take 9 d
+    front [] d long long' first rest = absurd (omega (arith, long))
+    front (a ∷ c) [] long long' first rest = absurd (omega (arith, long'))
+    front (a ∷ c) (b ∷ d) long long' first rest = ap (λ (l : List ℕ). take 9 (a ∷ l)) rest ∙ ap (λ (x : ℕ). take 9 (x ∷ d)) first
+
+-- the same first byte
+pub same_first : (n : ℕ) (c d : List ℕ) → 0 < n → take n c ≡ take n d → get_or c 0 0 ≡ get_or d 0 0
+same_first n c d some same = sym (get_or-take n c 0 0 some) ∙ ap (λ (l : List ℕ). get_or l 0 0) same ∙ get_or-take n d 0 0 some
+
+-- a cut behind a first byte other than 2, or in a short file, leaves no head
+pub cut_none : (d c : List ℕ) → (length d < 9) ⊎ (get_or d 0 0 ≢ 2) → Shortened 1 d c → generation_of c ≡ 0
+cut_none d c (inl short) cut = none_short c (omega (arith, short, cut.no_longer))
+cut_none d c (inr ne) cut = none_other c (λ is. ne (sym (same_first 1 c d (omega arith) cut.front) ∙ is))
+
+-- a write behind the first byte leaves this
+pub torn_none : (n : ℕ) (d c : List ℕ) → d ≡ 0 ∷ [] → Torn 1 n d c → generation_of c ≡ 0
+torn_none n d c is torn = none_other c (λ two. (let first = same_first 1 c d (omega arith) torn.before in let zero_d : get_or d 0 0 ≡ 0 = ap (λ (l : List ℕ). get_or l 0 0) is in omega (arith, first, zero_d, two)))
+
+pub torn_short : (d c : List ℕ) → length d ≤ 1 → Torn 0 1 d c → generation_of c ≡ 0
+torn_short d c short torn = none_short c (omega (arith, short, torn.no_longer))
+
+-- a write of the first byte before these leaves the whole head or none
+pub torn_live : (bytes d c : List ℕ) → d ≡ 0 ∷ bytes → Torn 0 1 d c → (generation_of c ≡ 0) ⊎ (c ≡ 2 ∷ bytes)
+torn_live bytes d [] is torn = absurd (omega (arith, ap length is, torn.no_shorter))
+torn_live bytes d (z ∷ c) is torn = elim (cases_eq z 2) [
+  | inl two ↦ inr (ap (λ (x : ℕ). x ∷ c) two ∙ ap (λ (l : List ℕ). 2 ∷ l) (torn.after ∙ ap (λ (l : List ℕ). drop 1 l) is))
+  | inr ne ↦ inl (none_other (z ∷ c) ne)
+]
+
+-- what keeps a generation of some keeps one of more
+pub keeps_more : (P Q : List ℕ → Type 0) (c : List ℕ) → ((d : List ℕ) → P d → Q d) → KeepsGeneration P c → KeepsGeneration Q c
+keeps_more P Q c more (inl none) = inl none
+keeps_more P Q c more (inr was) = inr (was.0, more was.0 was.1, was.2)

@@ -1,4 +1,11 @@
+pub mod Begins
+pub mod Files
 pub mod Heads
+pub mod Keeping
+pub mod Moments
+pub mod Opened
+pub mod Outcomes
+pub mod Packs
 pub mod PairCounts
 pub mod PairReads
 pub mod Parts

@@ -1,3 +1,8 @@
+pub mod Faults
 pub mod Heads
+pub mod Laws
+pub mod Made
 pub mod MemberLaws
+pub mod Packing
 pub mod Pair
+pub mod Steps

@@ -1,8 +1,7 @@
 //! The head of one disk, and what it tells.
-ghost use Rattle.std.specs.Prelude.{◌≡◌, ◌≤◌, take, length, IfOk, OnOk, OnErr, IsErr, IsTrue, false};
-ghost use Rattle.dap_bytes.specs.Causes.{Rose};
+ghost use Rattle.std.specs.Prelude.{◌≡◌, take, IfOk, OnOk, OnErr, IsErr, IsTrue, false};
 ghost use Rattle.dap_disk.specs.Disk.{Tells, NoMore, LeavesOnly, CountsStop};
-ghost use Rattle.journal_checkpoint.specs.Heads.{generation_of, start_of, front_of};
+ghost use Rattle.journal_checkpoint.specs.Heads.{generation_of, start_of, front_of, IsGeneration, begins_block};
 
 use dap_disk::{Disk, Down};
 use report_journal::read_into;
@@ -26,7 +25,7 @@ fn generation_in(head: &[u8; 9]) -> u64
 /// The generation of the file on the disk.
 pub(crate) fn read_generation<D: Disk>(disk: &mut D) -> Result<u64, Down>
     requires { IsTrue (D.up disk.old) }
-    ensures told { IfOk result (λ g. Tells (D.holds disk.old) (λ c. (g ≡ generation_of c) × (take (start_of g) c ≡ front_of g))) }
+    ensures told { IfOk result (λ g. Tells (D.holds disk.old) (IsGeneration g)) }
     ensures same { D.holds disk.new ≡ D.holds disk.old }
     ensures images { NoMore (D.may_leave disk.old) (D.may_leave disk.new) }
     ensures any_moment { LeavesOnly D.moment D.left_since disk.old disk.new (D.may_leave disk.old) }
@@ -40,4 +39,20 @@ pub(crate) fn read_generation<D: Disk>(disk: &mut D) -> Result<u64, Down>
         return Ok(0);
     }
     Ok(generation_in(&head))
+}
+
+/// Whether the file on the disk begins with an open gate and has a byte behind it.
+pub(crate) fn begins_block<D: Disk>(disk: &mut D) -> Result<bool, Down>
+    requires { IsTrue (D.up disk.old) }
+    ensures told { IfOk result (λ begins. Tells (D.holds disk.old) (λ c. begins ≡ begins_block c)) }
+    ensures same { D.holds disk.new ≡ D.holds disk.old }
+    ensures images { NoMore (D.may_leave disk.old) (D.may_leave disk.new) }
+    ensures any_moment { LeavesOnly D.moment D.left_since disk.old disk.new (D.may_leave disk.old) }
+    ensures up { OnOk result (IsTrue (D.up disk.new)) }
+    ensures counts { CountsStop D.downs D.deads (IsErr result) disk.old disk.new }
+    ensures down { OnErr result (D.up disk.new ≡ false) }
+{
+    let mut front = [0; 2];
+    let n = read_into(disk, &mut front)?;
+    Ok(n == 2 && front[0] == 1)
 }

@@ -45,15 +45,19 @@ impl<D: Disk> Disk for PairDisk<D> {
 
     ghost deads = { λ p. D.deads p.live + D.deads p.other };
 
-    ghost moves = { λ move p q. MovesLive D.moves p.start move p.live q.live × (q.other ≡ p.other) × (q.second ≡ p.second) × (q.generation ≡ p.generation) };
+    ghost moves = { λ move p q. MovesLive D.moves p.start move p.live q.live
+        × (q.other ≡ p.other) × (q.second ≡ p.second) × (q.generation ≡ p.generation) };
 
-    ghost counts_now = { λ p t c le now. reads_of p.second p.start (D.may_leave p.live) (D.left_since p.live t) (D.may_leave p.other) c (λ x is. D.counts_now p.live t x le is) now };
+    ghost counts_now = { λ p t c le now. reads_of p.second p.start
+        (D.may_leave p.live) (D.left_since p.live t) (D.may_leave p.other) c (λ x is. D.counts_now p.live t x le is) now };
 
-    ghost only_now = { λ p c left. reads_of p.second p.start (D.left_since p.live (D.moment p.live)) (D.may_leave p.live) (D.may_leave p.other) c (λ x was. D.only_now p.live x was) left };
+    ghost only_now = { λ p c left. reads_of p.second p.start
+        (D.left_since p.live (D.moment p.live)) (D.may_leave p.live) (D.may_leave p.other) c (λ x was. D.only_now p.live x was) left };
 
     ghost fits = { λ p c is. part_fits p.start (D.holds p.live) c (λ d h. D.fits p.live d h) is };
 
-    ghost held_may_stay = { λ p c up is. held_stays p.second p.start (D.holds p.live) (D.may_leave p.live) (D.may_leave p.other) c (λ d h. D.held_may_stay p.live d up h) is };
+    ghost held_may_stay = { λ p c up is. held_stays p.second p.start
+        (D.holds p.live) (D.may_leave p.live) (D.may_leave p.other) c (λ d h. D.held_may_stay p.live d up h) is };
 
     fn len(&mut self) -> Result<u64, Down> {
         match self.live.len() {

@@ -1,7 +1,7 @@
 use Rattle.std.proofs.Common.{◌≡◌, ◌≤◌, ◌+◌, ℕ, List, length, take, drop, Some, refl, ◌∙◌, ap, arith, length-drop}
 use Rattle.std.proofs.lemmas.List.{take-take}
 use Rattle.std.proofs.lemmas.Result.{on_ok_weaker}
-use Rattle.dap_disk.specs.Disk.{of_told, written}
+use Rattle.dap_disk.specs.Disk.{of_told}
 use Rattle.std.specs.Prelude.{IsErrOf}
 use Rattle.dap_disk.specs.declared.disk.StoreFault.TheVariants as store
 use Rattle.journal_checkpoint.proofs.PairCounts.{counts_plus}

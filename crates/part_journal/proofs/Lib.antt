@@ -1,4 +1,0 @@
-pub mod Again
-pub mod Counted
-pub mod Maps
-pub mod Parts
