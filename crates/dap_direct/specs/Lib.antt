@@ -3,6 +3,5 @@ pub mod Answered
 pub mod Direct
 pub mod Honest
 pub mod Offered
-pub mod Prepared
 pub mod Sums
 pub mod Told

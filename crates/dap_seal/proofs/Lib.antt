@@ -1,3 +1,5 @@
 pub mod Covers
-pub mod Honest
 pub mod FirstRule
+pub mod Halves
+pub mod Honest
+pub mod Turns

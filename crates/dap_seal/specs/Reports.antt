@@ -25,6 +25,14 @@ opened_report t r = record {
   helper = opened_by t.helper Helper (head_of r) r.helper;
 }
 
+-- a report as the leader sees it, which opens its own half alone: its task, the head, and its sealed share
+abbrev pub leader_seen : PlainTask → Head → List ℕ → Opened
+leader_seen t head sealed = record { key = t.verify; id = head.id; public = head.public; leader = opened_by t.leader Leader head sealed; helper = None }
+
+-- a report as the helper sees it, likewise
+abbrev pub helper_seen : PlainTask → Head → List ℕ → Opened
+helper_seen t head sealed = record { key = t.verify; id = head.id; public = head.public; leader = None; helper = opened_by t.helper Helper head sealed }
+
 -- the helper's step, by its half of the task and its half of the report alone: the verify key, the helper's keys, the head, and the helper's sealed share
 abbrev pub helper_step_of : Functions → List ℕ → SealKeys → Head → List ℕ → Step
 helper_step_of f verify keys head sealed =

@@ -1,4 +1,4 @@
--- Opening undoes sealing.
+-- Lemmas: opening undoes sealing.
 use Rattle.std.proofs.Common.{◌≡◌, ℕ, ◌+◌, ◌-◌, List, ◌++◌, length, take, drop, true, Some, None, cond, sym, ap, ◌∙◌, refl, arith}
 use Rattle.std.specs.Prelude.{nat_le, ◌&&◌}
 use Rattle.std.specs.Str.{bytes_eq}

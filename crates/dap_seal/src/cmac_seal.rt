@@ -1,6 +1,7 @@
 //! The seal with provisioned keys.
 
-ghost use Rattle.std.specs.Prelude.{◌≡◌};
+ghost use Rattle.std.specs.Prelude.{◌≡◌, ◌<◌, length};
+ghost use Rattle.dap_seal.specs.Answered.{Opens};
 ghost use Rattle.dap_seal.specs.Sealed.{opened_by, sealed_by};
 ghost use Rattle.dap_seal.specs.SealLaws.{opened_by-sealed_by};
 
@@ -44,7 +45,11 @@ impl Seal for CmacSeal {
         Ok(sealed)
     }
 
-    fn open(&self, alloc: Global, head: &Head, bytes: &[u8]) -> Result<Vec<u8>, OpenFault> {
+    fn open(&self, alloc: Global, head: &Head, bytes: &[u8]) -> Result<Vec<u8>, OpenFault>
+        ensures opens { Opens result (opened_by self.now.keys self.now.role head.now bytes.now) }
+        // Too few bytes for a tag are refused before memory is asked for.
+        ensures short { length bytes.now < TAG_LEN → result ≡ Err OpenFault.Tag }
+    {
         if bytes.len() < TAG_LEN {
             return Err(OpenFault::Tag);
         }

@@ -3,11 +3,13 @@
 ghost use Rattle.std.specs.Prelude.{◌≡◌, length, List, Some, true, ℕ};
 ghost use Rattle.dap_messages.specs.declared.report.Report.{Report};
 ghost use Rattle.dap_tasks.specs.Task.{PlainTask};
+ghost use Rattle.vdaf_api.specs.declared.kind.Kind.{Kind};
 ghost use Rattle.vdaf_api.specs.Functions.{Functions};
 ghost use Rattle.vdaf_api.specs.Verdict.{helper_step};
 ghost use Rattle.dap_seal.specs.declared.head.Head.{Head};
 ghost use Rattle.dap_seal.specs.Reports.{content_numbers_of, head_of, helper_step_of, honest_report, opened_report, verdict_of};
 ghost use Rattle.dap_seal.specs.Rules.{GoesByTheFirstRule};
+ghost use Rattle.dap_seal.specs.Turns.{ComesToTheVerdict};
 
 use crate::seal::Seal;
 use vdaf_api::Vdaf;
@@ -29,6 +31,12 @@ pub fn helper_steps_are_of_their_half()
 /// no value (5), the helper's out share has none (5); else it is ok, with both out shares.
 pub fn verdicts_go_by_the_first_rule()
     ensures { (f : Functions) (t : PlainTask) (r : Report) → GoesByTheFirstRule f (opened_report t r) (verdict_of f t r) }
+{}
+
+/// A law: what both aggregators say of a report in turn, from the helper's first step to the leader's share and the helper's
+/// outcome, is what the report's verdict says.
+pub fn turns_come_to_the_verdict()
+    ensures { (f : Kind → Functions) (t : PlainTask) (r : Report) → ComesToTheVerdict f t r }
 {}
 
 /// A law: an honest fair report has the verdict ok, and its content is the measurement's vector.

@@ -3,6 +3,7 @@
 ghost use Rattle.std.specs.Prelude.{◌≡◌, ◌≤◌, IfOk, IfSome, IsTrue};
 ghost use Rattle.std.specs.Option.{option_map};
 ghost use Rattle.dap_bytes.specs.Name.{IsName};
+ghost use Rattle.dap_bytes.specs.declared.limits.TheConstants.{LATEST_TIME};
 ghost use Rattle.dap_messages.specs.Messages.{report};
 ghost use Rattle.vdaf_api.specs.Answered.{parts_of};
 ghost use Rattle.dap_seal.specs.Answered.{Makes};
@@ -18,7 +19,7 @@ use std::alloc::{AllocError, Global};
 use vdaf_api::{Role, ShardFault, Shares, Vdaf};
 
 /// The bytes of the report that an honest client of a task makes of a measurement, with a time of at most
-/// 999,999,999,999,999,999. It is within the limits of a report's fields, so that its bytes are read again. `BadValue`
+/// `LATEST_TIME`. It is within the limits of a report's fields, so that its bytes are read again. `BadValue`
 /// exactly where the measurement isn't one of the kind, and `Spent` exactly where it is and a drawing from the seed is
 /// spent.
 pub fn make_report<V: Vdaf>(
@@ -30,7 +31,7 @@ pub fn make_report<V: Vdaf>(
     m: u64,
     seed: &[u8; 16],
 ) -> Result<Vec<u8>, ShardFault>
-    requires { time ≤ 999999999999999999 }
+    requires { time ≤ LATEST_TIME }
     ensures made { Makes result ((V.functions vdaf.now).encoding m)
         (option_map report.spell (honest_report (V.functions vdaf.now) task.now id.now time m seed.now)) }
     ensures allowed { IfOk result (λ _. IfSome (honest_report (V.functions vdaf.now) task.now id.now time m seed.now)

@@ -1,9 +1,12 @@
-use dap_bytes::{Id, Name};
-use dap_messages::{Report, read_report};
-use dap_seal::{CmacSeal, Head, OpenFault, Seal, make_report};
+use dap_bytes::{Bytes, Id, Name};
+use dap_messages::{Code, Half, Report, Step, Tagged, read_report};
+use dap_seal::{
+    CmacSeal, Head, OpenFault, Seal, helper_outcome, leader_item, leader_share, make_report,
+    prep_step,
+};
 use dap_tasks::{Task, trial};
 use prio3_kinds::Prio3;
-use std::alloc::Global;
+use std::alloc::{AllocError, Global};
 use std::process::Abort;
 use std::test::Fail;
 use vdaf_api::{Bounds, Kind, Role, Vdaf};
@@ -59,16 +62,6 @@ fn made(alloc: Global, task: &Task, m: u64) -> Result<Vec<u8>, Fail> {
     Ok(bytes)
 }
 
-/// What a report's sealed shares are bound to.
-fn head_of(report: &Report) -> Result<Head, Fail> {
-    Ok(Head {
-        name: report.name,
-        id: report.id,
-        time: report.time,
-        public: report.public.clone()?,
-    })
-}
-
 /// Whether a half opens as it is, and with none of its first eight bytes' lowest bits changed.
 fn opens_whole_alone(
     alloc: Global,
@@ -97,7 +90,7 @@ fn is_told(rt: &impl Abort, alloc: Global, task: &Task, m: u64, want: &str) -> R
     let text = hex::encode(alloc, &bytes)?;
     assert_eq!(rt; text.as_str(), want);
     let report = read_report(alloc, &bytes).map_err(|_| "a report that reads")?;
-    let head = head_of(&report)?;
+    let head = Head::of_report(&report)?;
     let leader = CmacSeal::new(&task.leader, Role::Leader);
     let helper = CmacSeal::new(&task.helper, Role::Helper);
     assert!(rt; opens_whole_alone(alloc, &leader, &head, report.leader.as_slice())?);
@@ -131,4 +124,228 @@ fn histograms_are_reported_byte_by_byte(rt: HostRuntime) -> Result<(), Fail> {
     assert!(rt; kind.is_valid());
     let task = trial(named(&rt, b"h"), kind, 1, 3600);
     is_told(&rt, alloc, &task, 25, HISTOGRAM)
+}
+
+/// What both aggregators say of a report in turn: the helper's first step, the leader's item and its share, and the
+/// helper's outcome, each in hex or with its code.
+#[derive(Clone, Copy)]
+struct Turns {
+    step: Result<&'static str, Code>,
+    item: Result<&'static str, Code>,
+    share: &'static str,
+    outcome: Result<&'static str, Code>,
+}
+
+/// Whether bytes are told in hex, or a code.
+fn is_said(
+    alloc: Global,
+    said: &Result<Bytes, Code>,
+    want: &Result<&str, Code>,
+) -> Result<bool, AllocError> {
+    match (said, want) {
+        (Ok(bytes), Ok(want)) => Ok(hex::encode(alloc, bytes.as_slice())?.as_str() == *want),
+        (Err(code), Err(want)) => Ok(code == want),
+        _ => Ok(false),
+    }
+}
+
+/// A step's bytes, or its code.
+fn said(step: &Step) -> Result<Result<Bytes, Code>, AllocError> {
+    match step {
+        Step::Continued(bytes) => Ok(Ok(bytes.clone()?)),
+        Step::Failed(code) => Ok(Err(*code)),
+    }
+}
+
+/// What the helper gets of a report.
+fn half_of(report: &Report) -> Result<Tagged<Half>, AllocError> {
+    Ok(Tagged {
+        id: report.id,
+        body: Half {
+            time: report.time,
+            public: report.public.clone()?,
+            helper: report.helper.clone()?,
+        },
+    })
+}
+
+fn say(
+    rt: &impl Abort,
+    alloc: Global,
+    task: &Task,
+    report: &Report,
+    want: &Turns,
+) -> Result<(), Fail> {
+    let vdaf = Prio3::of(alloc, &task.kind)?;
+    let half = half_of(report)?;
+    let step = prep_step(alloc, &vdaf, task, &report.name, &half)?;
+    assert!(rt; is_said(alloc, &said(&step)?, &want.step)?);
+    let item = leader_item(alloc, &vdaf, task, report, &step)?;
+    assert!(rt; is_said(alloc, &said(&item)?, &want.item)?);
+    let share = leader_share(alloc, &vdaf, task, report, &item)?;
+    assert_eq!(rt; hex::encode(alloc, share.as_slice())?.as_str(), want.share);
+    let outcome = helper_outcome(alloc, &vdaf, task, &report.name, &half, &item)?;
+    assert!(rt; is_said(alloc, &outcome, &want.outcome)?);
+    Ok(())
+}
+
+/// The report that the bytes in hex spell.
+fn report_in(alloc: Global, text: &str) -> Result<Report, Fail> {
+    let bytes = hex::decode(alloc, text).map_err(|_| "hex digits")?;
+    Ok(read_report(alloc, &bytes).map_err(|_| "a report that reads")?)
+}
+
+#[test]
+fn counts_are_said_in_turn(rt: HostRuntime) -> Result<(), Fail> {
+    let alloc = rt.alloc();
+    let task = trial(named(&rt, b"v"), Kind::Count, 3, 3600);
+    let step = "726dc438e7ef80cf42a490e74495a9cc098459593cce5b75ea47855ac41a790b";
+    let want = Turns {
+        step: Ok(step),
+        item: Ok(""),
+        share: "5a1993337950a739",
+        outcome: Ok("a8e66ccc85af58c6"),
+    };
+    say(&rt, alloc, &task, &report_in(alloc, COUNT)?, &want)
+}
+
+#[test]
+fn sums_are_said_in_turn(rt: HostRuntime) -> Result<(), Fail> {
+    let alloc = rt.alloc();
+    let task = trial(named(&rt, b"s"), Kind::Sum { bits: 8 }, 3, 3600);
+    let want = Turns {
+        step: Ok(
+            "36450a5dc84736623bc3c52f2da0f9494a9a3d79191003a241714151626a98c6\
+            601be9bff4ef5a7bc9402a2fd99f911cfa200b98389a69099ece0d89ba51709d",
+        ),
+        item: Ok("d45843da2022d11616f2dcf962f355a1"),
+        share: "3ca8a10d942e023d2cda6b53922744d4",
+        outcome: Ok("8d585ef26bd1fdc2b72594ac6dd8bb2b"),
+    };
+    say(&rt, alloc, &task, &report_in(alloc, SUM)?, &want)
+}
+
+#[test]
+fn histograms_are_said_in_turn(rt: HostRuntime) -> Result<(), Fail> {
+    let alloc = rt.alloc();
+    let bounds = Bounds::new([10, 20, 30].to_vec(alloc)?);
+    let kind = Kind::Histogram { bounds };
+    assert!(rt; kind.is_valid());
+    let task = trial(named(&rt, b"h"), kind, 1, 3600);
+    let want = Turns {
+        step: Ok(
+            "233e1df365b4912d99d320b7ece36bddce9a9e02bad575828d7698345c4cee43\
+            b5979c60821b42173f761b094aeb5b32e94b979ad786f45fb8e145ac5110d1ac",
+        ),
+        item: Ok("e95cc3aa914a98c201ed271fd3d104f0"),
+        share: "776b848b56e540f044608bce97724e9ff7854e27c8d17730702bd1a54269fc8c\
+            b1abf066c89e297ec7b809d99ae449f06975761ea192154dd9ccde917020d157",
+        outcome: Ok(
+            "8a947b74a91abf0f9f9f7431688db1600a7ab1d8372e88cf73d42e5abd960373\
+            51540f993761d6811c47f626651bb60f988a89e15e6deab20a33216e8fdf2ea8",
+        ),
+    };
+    say(&rt, alloc, &task, &report_in(alloc, HISTOGRAM)?, &want)
+}
+
+/// The leader's and the helper's sealed share of the report of 1 above.
+const LEADER: &str = "\
+    6965cb1df9e395f7461a2d8c6a6e314d6a17aeca00bc17d1e7656c1b46c542b31880d1ce3f1a5581beef1b99dded8821\
+    9ffadf6256f08c26907793a7c48bcae9";
+
+const HELPER: &str = "\
+    f0b0e909252a4fa126e5107678361287666b1b70fb7847b4a109b7f91ec59947210a5dc932244a8af300d515ead8acd4";
+
+/// Says what both aggregators say of a report with these sealed shares, which neither counts.
+fn fail(
+    rt: &impl Abort,
+    alloc: Global,
+    leader: &str,
+    helper: &str,
+    step: Result<&'static str, Code>,
+    code: Code,
+) -> Result<(), Fail> {
+    let task = trial(named(rt, b"v"), Kind::Count, 3, 3600);
+    let leader = hex::decode(alloc, leader).map_err(|_| "hex digits")?;
+    let helper = hex::decode(alloc, helper).map_err(|_| "hex digits")?;
+    let report = Report {
+        name: task.name,
+        id: ONE,
+        time: 10,
+        public: Bytes::new(Vec::new(alloc)),
+        leader: Bytes::new(leader),
+        helper: Bytes::new(helper),
+    };
+    let want = Turns {
+        step,
+        item: Err(code),
+        share: "0000000000000000",
+        outcome: Err(code),
+    };
+    say(rt, alloc, &task, &report, &want)
+}
+
+/// The helper's prep share of that report.
+const READY: Result<&str, Code> = Ok(
+    "726dc438e7ef80cf42a490e74495a9cc098459593cce5b75ea47855ac41a790b",
+);
+
+#[test]
+fn a_changed_helpers_half_fails_first(rt: HostRuntime) -> Result<(), Fail> {
+    // 15 bytes; a changed tag; and one byte fewer, beside a leader's share that opens and one that doesn't.
+    for (leader, helper, code) in [
+        (
+            LEADER,
+            "f0b0e909252a4fa126e51076783612",
+            Code::HpkeDecryptError,
+        ),
+        (
+            LEADER,
+            "f0b0e909252a4fa126e5107678361287666b1b70fb7847b4a109b7f91ec59947210a5dc932244a8af300d515ead8acd5",
+            Code::HpkeDecryptError,
+        ),
+        (
+            LEADER,
+            "f0b0e909252a4fa126e5107678361287666b1b70fb7847b4a109b7f91ec599b47a4bc1eeebb4381285dd095c4fac88",
+            Code::VdafPrepError,
+        ),
+        (
+            "6965cb",
+            "f0b0e909252a4fa126e5107678361287666b1b70fb7847b4a109b7f91ec599b47a4bc1eeebb4381285dd095c4fac88",
+            Code::VdafPrepError,
+        ),
+    ] {
+        fail(&rt, rt.alloc(), leader, helper, Err(code), code)?;
+    }
+    Ok(())
+}
+
+#[test]
+fn a_changed_leaders_half_fails(rt: HostRuntime) -> Result<(), Fail> {
+    // A changed bit; one byte fewer; and, each under its tag, another input and a number that is no element.
+    for (leader, code) in [
+        (
+            "6865cb1df9e395f7461a2d8c6a6e314d6a17aeca00bc17d1e7656c1b46c542b31880d1ce3f1a5581beef1b99dded8821\
+             9ffadf6256f08c26907793a7c48bcae9",
+            Code::HpkeDecryptError,
+        ),
+        (
+            "6965cb1df9e395f7461a2d8c6a6e314d6a17aeca00bc17d1e7656c1b46c542b31880d1ce3f1a5581beef1b99dded88\
+             e02be4ab58c187c72b6202ceac592305",
+            Code::VdafPrepError,
+        ),
+        (
+            "6865cb1df9e395f7461a2d8c6a6e314d6a17aeca00bc17d1e7656c1b46c542b31880d1ce3f1a5581beef1b99dded8821\
+             400b5b4405e458dce2fd367dec3a5d57",
+            Code::VdafPrepError,
+        ),
+        (
+            "cc83a7d17f4ccd31461a2d8c6a6e314d6a17aeca00bc17d1e7656c1b46c542b31880d1ce3f1a5581beef1b99dded8821\
+             c0f074bb450bfb09f3a77008a3cb7bd6",
+            Code::VdafPrepError,
+        ),
+    ] {
+        fail(&rt, rt.alloc(), leader, HELPER, READY, code)?;
+    }
+    Ok(())
 }
