@@ -1,5 +1,5 @@
 -- Halves of reports, step by step.
-use Rattle.std.proofs.Common.{◌≡◌, ℕ, List, Option, Some, None, Result, Ok, Err, Vec, refl, sym, ap, ◌∙◌}
+use Rattle.std.proofs.Common.{◌≡◌, ℕ, List, Option, Some, None, Err, Vec, refl, sym, ap, ◌∙◌}
 use Rattle.std.specs.declared.alloc.Global.{Global}
 use Rattle.dap_messages.specs.declared.body.Step.{Step}
 use Rattle.dap_messages.specs.declared.body.Step.TheVariants.{Continued, Failed}
@@ -8,7 +8,6 @@ use Rattle.dap_messages.specs.declared.code.Code.TheVariants.{BatchCollected, Re
 use Rattle.dap_messages.specs.Forms.{byte_of}
 use Rattle.dap_messages.specs.declared.report.Report.{Report}
 use Rattle.dap_tasks.specs.Task.{PlainTask}
-use Rattle.vdaf_api.specs.declared.kind.Kind.{Kind}
 use Rattle.vdaf_api.specs.declared.role.Role.{Role}
 use Rattle.vdaf_api.specs.declared.role.Role.TheVariants.{Leader, Helper}
 use Rattle.vdaf_api.specs.declared.step.Step as prepared
@@ -20,7 +19,7 @@ use Rattle.dap_seal.specs.declared.half.Begun.TheVariants as begun
 use Rattle.dap_seal.specs.Halves.{Begins, half_as, opening, step_with}
 use Rattle.dap_seal.specs.Reports.{head_of, helper_seen, leader_seen, opened_report}
 use Rattle.dap_seal.specs.Sealed.{opened_by}
-use Rattle.dap_seal.specs.Steps.{code_told, step_told, message_with, item_from, share_from, or_zero, or_code, outcome_with, outcome_from, item_by, share_by}
+use Rattle.dap_seal.specs.Steps.{code_told, step_told, message_with, item_from, share_from, or_zero, or_code, outcome_with, outcome_from}
 
 -- ---- one half, alone and in the whole report
 

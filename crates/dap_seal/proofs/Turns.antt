@@ -1,8 +1,7 @@
 -- What both aggregators say of a report in turn comes to its verdict.
-use Rattle.std.proofs.Common.{◌≡◌, ℕ, List, Option, Some, None, Result, Ok, Err, refl, sym, ap, subst, ◌∙◌}
+use Rattle.std.proofs.Common.{◌≡◌, ℕ, List, Option, Some, None, Ok, Err, refl, sym, ap, subst, ◌∙◌}
 use Rattle.std.specs.Option.{option_and_then}
 use Rattle.dap_messages.specs.declared.body.Step.{Step}
-use Rattle.dap_messages.specs.declared.code.Code.{Code}
 use Rattle.dap_messages.specs.declared.report.Report.{Report}
 use Rattle.dap_tasks.specs.Task.{PlainTask}
 use Rattle.vdaf_api.specs.declared.kind.Kind.{Kind}
@@ -10,9 +9,9 @@ use Rattle.vdaf_api.specs.declared.role.Role.TheVariants.{Leader, Helper}
 use Rattle.vdaf_api.specs.declared.step.Step as prepared
 use Rattle.vdaf_api.specs.declared.step.Step.TheVariants as prep
 use Rattle.vdaf_api.specs.Functions.{Functions}
-use Rattle.vdaf_api.specs.Verdict.{Opened, Verdict, ok, bad, or_invalid, helper_step, helper_out, leader_out, leader_part, item_after, out_of, both_outs, verdict_after}
-use Rattle.dap_seal.specs.Reports.{item_of, opened_report, verdict_of}
-use Rattle.dap_seal.specs.Steps.{code_told, step_told, item_from, or_zero, or_code, outcome_with, outcome_by, half_of, prep_by, item_by, share_by}
+use Rattle.vdaf_api.specs.Verdict.{Opened, ok, bad, or_invalid, helper_step, helper_out, leader_out, leader_part, item_after, out_of, both_outs, verdict_after}
+use Rattle.dap_seal.specs.Reports.{item_of, opened_report}
+use Rattle.dap_seal.specs.Steps.{code_told, step_told, item_from, or_zero, or_code, outcome_with, outcome_by, half_of, item_by, share_by}
 use Rattle.dap_seal.specs.Turns.{ComesToTheVerdict}
 use Rattle.dap_seal.proofs.Halves.{seen, seen-helper, seen-out, step-helper}
 
