@@ -1,13 +1,4 @@
 pub mod Appends
 pub mod Entries
-pub mod FrontRules
-pub mod Grown
-pub mod HelperRules
-pub mod Items
-pub mod LeaderRules
 pub mod Loop
-pub mod Members
-pub mod Once
-pub mod Opens
 pub mod Ranges
-pub mod Walks

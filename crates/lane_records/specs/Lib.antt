@@ -2,15 +2,7 @@ pub mod Batch
 pub mod BatchLaws
 pub mod Bounds
 pub mod BoundsLaws
-pub mod FrontTests
-pub mod History
-pub mod HistoryTests
 pub mod Journal
-pub mod LaneTests
-pub mod Legal
-pub mod LegalFronts
-pub mod LegalLanes
-pub mod LegalTests
 pub mod RecordLaws
 pub mod Records
 pub mod Stored

@@ -1,0 +1,7 @@
+use Rattle.std.proofs.Common.{◌∙◌, ap}
+use Rattle.legal_journals.specs.Places.{place_of}
+use Rattle.legal_journals.specs.LaneTests.{finishes_job}
+use Rattle.legal_journals.proofs.leader_index.LeaderIndex.finished.Goals as goal
+
+pub returns : goal.returns
+returns c records h = c.get.ensures ∙ h.finished c.job_key.result ∙ ap (λ j. place_of (finishes_job j) records) c.job_key.ensures

@@ -1,0 +1,7 @@
+use Rattle.std.proofs.Common.{is_some, ap, ◌∙◌}
+use Rattle.legal_journals.specs.LaneTests.{continues_job}
+use Rattle.legal_journals.proofs.Firsts.{place_of-any}
+use Rattle.legal_journals.proofs.leader_rules.continued.Goals as goal
+
+pub returns : goal.returns
+returns c = c.is_some.ensures ∙ ap is_some (c.job.ensures c.args.earlier.now c.requires) ∙ place_of-any (continues_job c.args.job.now) c.args.earlier.now

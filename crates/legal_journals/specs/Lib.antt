@@ -1,0 +1,16 @@
+pub mod Accepts
+pub mod Finished
+pub mod FrontTests
+pub mod HelperIndexed
+pub mod History
+pub mod HistoryTests
+pub mod LaneTests
+pub mod LeaderIndexed
+pub mod Legal
+pub mod LegalFronts
+pub mod LegalLanes
+pub mod LegalTests
+pub mod Places
+pub mod Reports
+pub mod Tables
+pub mod Waiting

@@ -1,0 +1,139 @@
+//! How many records a journal has, and what its Opens say.
+
+ghost use Rattle.std.specs.Prelude.{◌≡◌, ◌++◌, ◌∷◌, [], List, IfSome, OnOk};
+ghost use Rattle.lane_records.specs.declared.record.Record.{Record};
+ghost use Rattle.legal_journals.specs.History.{lanes_in};
+ghost use Rattle.std.specs.List.{list_any};
+ghost use Rattle.legal_journals.specs.HistoryTests.{is_open, is_none_but, has_lanes, puts_into, is_of_lane};
+ghost use Rattle.legal_journals.specs.Places.{AreOpens, HaveOneNumber};
+
+use dap_batch::lane_of;
+use dap_bytes::Id;
+use lane_records::{MOST_LANES, Record};
+use std::alloc::AllocError;
+
+/// How many records a journal has, how many of them are Opens, and how many lanes the first of these names.
+#[derive(Clone, Copy, Debug)]
+pub(crate) struct Opens {
+    pub(crate) count: usize,
+    pub(crate) opens: usize,
+    pub(crate) lanes: Option<u8>,
+}
+
+/// The number of lanes that an Open names. None for other records.
+pub(crate) fn lanes_in(x: &Record) -> Option<u8>
+    ensures { result ≡ lanes_in x.now }
+{
+    match x {
+        Record::LeaderOpen(lanes, _)
+        | Record::HelperOpen(lanes, _)
+        | Record::LeaderFrontOpen(lanes)
+        | Record::HelperFrontOpen(lanes) => Some(*lanes),
+        _ => None,
+    }
+}
+
+impl Opens {
+    /// Those of a journal with no record.
+    pub(crate) fn new() -> Self
+        ensures { AreOpens result [] }
+    {
+        Opens {
+            count: 0,
+            opens: 0,
+            lanes: None,
+        }
+    }
+
+    /// Those with one record more. None at the end of the numbers.
+    pub(crate) fn with(self, x: &Record) -> Option<Opens>
+        ensures { IfSome result (λ more. (records : List Record) → AreOpens self records → AreOpens more (records ++ x.now ∷ [])) }
+    {
+        let count = self.count.checked_add(1)?;
+        match lanes_in(x) {
+            None => Some(Opens { count, ..self }),
+            Some(lanes) => {
+                let opens = self.opens.checked_add(1)?;
+                let lanes = Some(self.lanes.unwrap_or(lanes));
+                Some(Opens {
+                    count,
+                    opens,
+                    lanes,
+                })
+            }
+        }
+    }
+
+    /// One record more: refused at the end of the numbers, as by want of memory.
+    pub(crate) fn add(&mut self, x: &Record) -> Result<(), AllocError>
+        ensures { OnOk result ((records : List Record) → AreOpens self.old records → AreOpens self.new (records ++ x.now ∷ [])) }
+    {
+        let Some(opens) = self.with(x) else {
+            return Err(AllocError {});
+        };
+        *self = opens;
+        Ok(())
+    }
+
+    /// Those without the last record.
+    pub(crate) fn without(self, x: &Record) -> Opens
+        ensures { (records : List Record) → AreOpens self (records ++ x.now ∷ []) → AreOpens result records }
+    {
+        let count = self.count.saturating_sub(1);
+        if lanes_in(x).is_none() {
+            return Opens { count, ..self };
+        }
+        let opens = self.opens.saturating_sub(1);
+        let lanes = if opens == 0 { None } else { self.lanes };
+        Opens {
+            count,
+            opens,
+            lanes,
+        }
+    }
+
+    /// Whether there is an Open.
+    pub(crate) fn has_open(self) -> bool
+        ensures { (records : List Record) → AreOpens self records → result ≡ list_any is_open records }
+    {
+        0 < self.opens
+    }
+
+    /// Whether an Open may name this number of lanes: 1 to `MOST_LANES`, as in each Open before.
+    pub(crate) fn has_lanes(self, lanes: u8, earlier: &[Record]) -> bool
+        requires opened { AreOpens self earlier.now }
+        requires numbered { HaveOneNumber earlier.now }
+        ensures { result ≡ has_lanes lanes earlier.now }
+    {
+        1 <= lanes && lanes <= MOST_LANES && is_none_but(lanes, self.lanes)
+    }
+
+    /// Whether the identifier is of this lane, by an Open before.
+    pub(crate) fn is_of_lane(self, lane: u8, id: &Id, earlier: &[Record]) -> bool
+        requires opened { AreOpens self earlier.now }
+        requires numbered { HaveOneNumber earlier.now }
+        ensures { result ≡ is_of_lane lane id.now earlier.now }
+    {
+        puts_into(lane, id, self.lanes)
+    }
+}
+
+/// Whether it is no number of lanes but this one.
+fn is_none_but(lanes: u8, known: Option<u8>) -> bool
+    ensures { result ≡ is_none_but lanes known }
+{
+    match known {
+        Some(other) => other == lanes,
+        None => true,
+    }
+}
+
+/// Whether it is a number of lanes among which the identifier's is this one.
+fn puts_into(lane: u8, id: &Id, known: Option<u8>) -> bool
+    ensures { result ≡ puts_into lane id.now known }
+{
+    match known {
+        Some(lanes) => 0 < lanes && lane_of(id, lanes) == lane,
+        None => false,
+    }
+}
