@@ -7,9 +7,10 @@ REFERENCE is the path of a Python program with three commands: `run [--tasks FIL
 and `check FILE` print what the program must print, put the text of the status on standard error and end with its number,
 each with the given words behind it; `report --task-line LINE ID TIME VALUE SEED` and `report --tasks FILE --name NAME ID
 TIME VALUE SEED` print an honest report in base64. Each pair of a file and a script is drawn from the seed and its number:
-several tasks of every kind, some of the file's and some of the script's, measurements and uploads with repeats,
-conflicts, changed bytes and values out of range, moments, collections in any order, blank lines, comments and carriage
-returns, and now and then a file or a line that is refused or isn't run yet. Nothing is run in the gate: this takes
+several tasks of every kind, some of the file's and some of the script's, with an expiry or without, measurements and
+uploads with repeats, conflicts, changed bytes and values out of range, moments, collections of one bucket or of several in
+any order, blank lines, comments and carriage returns, and now and then a file or a line that is refused or isn't run
+yet. With --one-bucket no collection has several. Nothing is run in the gate: this takes
 minutes.
 """
 
@@ -23,6 +24,8 @@ from pathlib import Path
 
 TOP = Path(__file__).resolve().parent.parent
 PROGRAM = TOP / "crates" / "dap_program" / "out" / "dap_program"
+# The latest time of all.
+LATEST = 999_999_999_999_999_999
 
 
 class Task:
@@ -42,6 +45,8 @@ class Task:
             self.values = [0, 1, greatest, greatest, draw.randint(0, greatest), above]
         else:
             bounds = sorted(draw.sample(range(200), draw.randint(1, 6)))
+            if draw.randrange(12) == 0:
+                bounds = list(range(draw.choice([63, 64, 65, 200])))
             if draw.randrange(5) == 0:
                 bounds = sorted({*bounds, 2 ** 63 - 1})
             self.bounds = bounds
@@ -49,9 +54,11 @@ class Task:
             self.values = [bounds[0], bounds[-1], draw.choice(bounds), draw.randrange(250), 2 ** 64 - 1]
         self.least = draw.choice([1, 1, 2, 3])
         self.precision = draw.choice([1, 7, 100, 3600])
+        self.expires = draw.choice([None, None, None, 0, 100, 101, 7000, LATEST])
 
     def line(self):
-        return f"task {self.name} {self.words} {self.least} {self.precision}"
+        ending = "" if self.expires is None else f" expires {self.expires}"
+        return f"task {self.name} {self.words} {self.least} {self.precision}{ending}"
 
 
 class FileWriter:
@@ -71,8 +78,10 @@ class FileWriter:
             fields["bits"] = str(task.bits)
         if task.bounds is not None:
             fields["bounds"] = str(task.bounds)
-        fields.update(min=str(task.least), precision=str(task.precision), verify=f'"{self.hexed(16)}"',
-                      leader=f'"{self.hexed(32)}"', helper=f'"{self.hexed(32)}"')
+        fields.update(min=str(task.least), precision=str(task.precision))
+        if task.expires is not None:
+            fields["expires"] = str(task.expires)
+        fields.update(verify=f'"{self.hexed(16)}"', leader=f'"{self.hexed(32)}"', helper=f'"{self.hexed(32)}"')
         return fields
 
     def spoil(self, fields):
@@ -83,9 +92,10 @@ class FileWriter:
             "name": ['""', '"A"', '"' + "n" * 33 + '"', "7", '"f0"'],
             "kind": ['"mean"', "1", '"Count"'],
             "bits": ["0", "65", '"8"', "1.0", "-1"],
-            "bounds": ["[]", "[2, 2]", "[3, 1]", "[-1]", '["1"]', str(list(range(64)))],
+            "bounds": ["[]", "[2, 2]", "[3, 1]", "[-1]", '["1"]', str(list(range(1024)))],
             "min": ["0", "1000001", '"1"', "true"],
             "precision": ["0", "1000000001", "1e3"],
+            "expires": ["-1", str(LATEST + 1), '"1"', "1.0", "[]"],
             "verify": ['"00"', f'"{"g" * 32}"', "0"],
             "leader": [f'"{"0" * 63}"', f'"{"0" * 66}"', '""'],
             "helper": [f'"{"0" * 32}"', "[]"],
@@ -94,7 +104,7 @@ class FileWriter:
         if pick == 0:
             del fields[key]
         elif pick == 1:
-            fields[draw.choice(["bits", "bounds", "zeal", "Name", "expires", "aim"])] = "3"
+            fields[draw.choice(["bits", "bounds", "zeal", "Name", "expires", "Expires", "aim"])] = "3"
         elif pick == 2:
             fields[key] = "9223372036854775808"
         else:
@@ -127,8 +137,9 @@ class FileWriter:
 class Writer:
     """Draws the lines of a script that is run beside a task file."""
 
-    def __init__(self, draw, given, honest):
+    def __init__(self, draw, given, honest, several):
         self.draw = draw
+        self.several = several
         self.given = given
         self.tasks = []
         self.offered = []
@@ -184,10 +195,16 @@ class Writer:
         task = self.draw.choice(self.tasks + self.given)
         name = "unknown" if self.chance(4) else task.name
         start = task.precision * self.draw.randrange(3) + (1 if self.chance(5) else 0)
+        if self.chance(3):
+            start = LATEST // task.precision * task.precision
+        if self.chance(10):
+            return f"collect {name} {start} 1"
+        if self.several and self.chance(45):
+            return f"collect {name} {start} {self.draw.choice([2, 2, 2, 3, 3, 4, 64])}"
         return f"collect {name} {start}"
 
     def now(self):
-        return f"now {self.draw.choice([0, 1, 100, 1000, 7000, 999999999999999999])}"
+        return f"now {self.draw.choice([0, 1, 99, 100, 1000, 6999, 7000, LATEST])}"
 
     def nothing(self):
         return self.draw.choice(["", "#", "# a comment", "#collect a 0", "#\t\r"])
@@ -196,6 +213,8 @@ class Writer:
         name = self.tasks[0].name
         return self.draw.choice([
             "measur v", " ", "collect", f"collect {name} 01", f"collect {name}  0", f"collect {name} 0 ",
+            f"collect {name} 0 0", f"collect {name} 0 65", f"collect {name} 0 01", f"collect {name} 0 1 1",
+            "task x count 1 1 expires", f"task x count 1 1 expires {LATEST + 1}", "task x count 1 1 expires 1 2",
             f"task {name} count 1 1", "task A count 1 1", "task x sum 65 1 1", "task x sum 0 1 1",
             "task x histogram 2,2 1 1", "task x histogram 1, 1 1", "task x count 0 1", "task x count 1 1000000001",
             f"measure {name} 0 0 0 0", "now 1000000000000000000", "upload", "upload Zg", "upload Zh==",
@@ -272,6 +291,7 @@ def main():
     parser.add_argument("--scripts", type=int, default=200)
     parser.add_argument("--seed", type=int, default=0)
     parser.add_argument("--word", action="append", default=[], help="a further word for the commands run and check")
+    parser.add_argument("--one-bucket", action="store_true", help="no collection of several buckets")
     given = parser.parse_args()
     # This builds the program where that is still to be done.
     subprocess.run([str(TOP / "dap"), "--version"], capture_output=True, check=True)
@@ -287,7 +307,7 @@ def main():
             # A file that is refused is run beside a script now and then.
             beside = draw.randrange(2) == 0 and (reads or draw.randrange(4) == 0)
             own = file.tasks if beside and reads else []
-            script = Writer(draw, own, scripts.honest(path, own)).script()
+            script = Writer(draw, own, scripts.honest(path, own), not given.one_bucket).script()
             words, options = (["run", path], ["--tasks", path]) if beside else (["run"], [])
             scripts.compare(f"script {number}", words, ["run", *options, "-"], script)
     for what, done in [("files", files), ("scripts", scripts)]:

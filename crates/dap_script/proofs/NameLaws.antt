@@ -92,9 +92,9 @@ no_new_name names before h line none =
 
 -- one more line
 pub free_next : (names : List (List ℕ)) (before : List Line) (line : Line) → AreFree names before → follows names before line ≡ true → AreFree names (before ++ line ∷ [])
-free_next names before (Task name kind min precision) h f =
+free_next names before (Task name kind min precision expires) h f =
     let new = or_parts (is_among names name) (list_any (names_task name) before) (negated _ (and_parts (is_new names before name) true f).0) in
-    let all : task_names (before ++ Task name kind min precision ∷ []) ≡ task_names before ++ name ∷ [] = task_names-append before (Task name kind min precision ∷ []) in
+    let all : task_names (before ++ Task name kind min precision expires ∷ []) ≡ task_names before ++ name ∷ [] = task_names-append before (Task name kind min precision expires ∷ []) in
     let Other : List ℕ → Type 0 = λ x. is_among names x ≡ false in
     record {
       distinct = subst AreDistinct (sym all) (distinct-push (task_names before) name h.distinct (sym (any_names name before) ∙ new.1));
@@ -104,14 +104,14 @@ free_next names before Blank h f = no_new_name names before h Blank refl
 free_next names before (Now t) h f = no_new_name names before h (Now t) refl
 free_next names before (Measure name id time value seed) h f = no_new_name names before h (Measure name id time value seed) refl
 free_next names before (Upload report) h f = no_new_name names before h (Upload report) refl
-free_next names before (Collect name start) h f = no_new_name names before h (Collect name start) refl
+free_next names before (Collect name span) h f = no_new_name names before h (Collect name span) refl
 free_next names before (Restart node) h f = no_new_name names before h (Restart node) refl
 
 -- a line among others
 pub follows_others : (names : List (List ℕ)) (before : List Line) (line : Line) (after : List Line) → AreFree names (before ++ line ∷ after) → follows names before line ≡ true
-follows_others names before (Task name kind min precision) after h =
-    let all : task_names (before ++ Task name kind min precision ∷ after) ≡ task_names before ++ name ∷ task_names after =
-    task_names-append before (Task name kind min precision ∷ after) in
+follows_others names before (Task name kind min precision expires) after h =
+    let all : task_names (before ++ Task name kind min precision expires ∷ after) ≡ task_names before ++ name ∷ task_names after =
+    task_names-append before (Task name kind min precision expires ∷ after) in
     let Other : List ℕ → Type 0 = λ x. is_among names x ≡ false in
     let new : Other name =
     All-head Other name (task_names after) (All-right Other (task_names before) (name ∷ task_names after) (subst (All Other) all h.others)) in
@@ -121,7 +121,7 @@ follows_others names before Blank after h = refl
 follows_others names before (Now t) after h = refl
 follows_others names before (Measure name id time value seed) after h = refl
 follows_others names before (Upload report) after h = refl
-follows_others names before (Collect name start) after h = refl
+follows_others names before (Collect name span) after h = refl
 follows_others names before (Restart node) after h = refl
 
 pub free_before : (names : List (List ℕ)) (before after : List Line) → AreFree names (before ++ after) → AreFree names before

@@ -1,11 +1,11 @@
 -- How a task line is printed, part by part.
-use Rattle.std.proofs.Common.{◌≡◌, ℕ, ◌-◌, ◌≤◌, List, [], ◌∷◌, ◌++◌, map, take, drop, length, get_or, codes, refl, sym, ap, ◌∙◌, arith}
+use Rattle.std.proofs.Common.{◌≡◌, ℕ, ◌-◌, ◌≤◌, List, [], ◌∷◌, ◌++◌, map, take, drop, length, get_or, codes, Option, Some, None, refl, sym, ap, ◌∙◌, arith}
 use Rattle.std.proofs.lemmas.List.{append-nil, append_assoc, drop_all, take_all}
 use Rattle.std.specs.Fmt.{decimal}
 use Rattle.std.specs.List.{flat_map, join_with_byte}
 use Rattle.vdaf_api.specs.declared.kind.Kind.{Kind}
 use Rattle.vdaf_api.specs.declared.kind.Kind.TheVariants.{Count, Histogram, Sum}
-use Rattle.dap_script.specs.Spelling.{kind_words, spelling}
+use Rattle.dap_script.specs.Spelling.{expiry_text, kind_words, spelling}
 use Rattle.dap_script.specs.declared.line.Line.TheVariants.{Task}
 
 -- numbers in decimal, each after a comma
@@ -18,7 +18,7 @@ join_with_byte-commas n (m ∷ numbers) = ap (λ (rest : List ℕ). decimal n ++
 
 -- the words of a task line, one after another
 pub spelling-task : (name : List ℕ) (kind : Kind) (min precision : ℕ)
-    → spelling (Task name kind min precision)
+    → spelling (Task name kind min precision None)
     ≡ codes "task " ++ (name ++ (32 ∷ (join_with_byte 32 (kind_words kind) ++ (32 ∷ (decimal min ++ 32 ∷ decimal precision)))))
 spelling-task name Count min precision = refl
 spelling-task name (Sum bits) min precision = refl
@@ -27,8 +27,16 @@ spelling-task name (Histogram bounds) min precision = refl
 -- the same behind what stands there, as it grows
 pub task-written : (old name : List ℕ) (kind : Kind) (min precision : ℕ)
     → (((((((old ++ codes "task ") ++ name) ++ 32 ∷ []) ++ join_with_byte 32 (kind_words kind)) ++ 32 ∷ []) ++ decimal min) ++ 32 ∷ []) ++ decimal precision
-    ≡ old ++ spelling (Task name kind min precision)
+    ≡ old ++ spelling (Task name kind min precision None)
 task-written old name kind min precision = rw (spelling-task name kind min precision) (simp append_assoc)
+
+-- the expiry behind the other words
+pub spelling-expiry : (name : List ℕ) (kind : Kind) (min precision : ℕ) (expires : Option ℕ)
+    → spelling (Task name kind min precision None) ++ expiry_text expires ≡ spelling (Task name kind min precision expires)
+spelling-expiry name kind min precision None = append-nil (spelling (Task name kind min precision None))
+spelling-expiry name Count min precision (Some t) = simp (append_assoc, append-nil)
+spelling-expiry name (Sum bits) min precision (Some t) = simp (append_assoc, append-nil)
+spelling-expiry name (Histogram bounds) min precision (Some t) = simp (append_assoc, append-nil)
 
 first_others : (xs : List ℕ) → 1 ≤ length xs → xs ≡ get_or xs 0 0 ∷ take (length xs - 1) (drop 1 xs)
 first_others [] h = absurd (omega arith)

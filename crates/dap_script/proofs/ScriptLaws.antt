@@ -33,7 +33,7 @@ line_after-parts names before text line h =
     (line_spelled text line (e ∙ ap Some same), rw (← same) g.0))
 
 in_range : (text : List ℕ) (line : Line) → SpellsLine text line → IsInRange line
-in_range text line (inl s) = s.1
+in_range text line (inl s) = s.in_range
 in_range text line (inr s) = subst IsInRange (sym s.0) tt
 
 rest_spelled : (names : List (List ℕ)) (before : List Line) (texts : List (List ℕ)) (all : List Line) → AreFree names before → read_after names before texts ≡ Ok all

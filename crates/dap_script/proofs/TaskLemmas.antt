@@ -5,7 +5,7 @@ use Rattle.std.proofs.lemmas.List.{length-map, take-map, drop-map}
 use Rattle.std.proofs.Math.ListN.{get_or-map}
 use Rattle.vdaf_api.specs.declared.kind.Kind.{Kind}
 use Rattle.dap_script.specs.Fields.{kind_of}
-use Rattle.dap_script.specs.Line.{task_of, task_with}
+use Rattle.dap_script.specs.Line.{task_until, task_with}
 use Rattle.dap_script.specs.Words.{texts, word}
 
 length-texts : (words : List (Bor (List ℕ))) → length (texts words) ≡ length words
@@ -23,14 +23,14 @@ kind_of-middle fields kind e =
     let same : length fields - 2 - 1 ≡ length fields - 3 = omega arith in
     ap kind_of (middle fields (length fields - 3)) ∙ rw same at e
 
-pub task_stops : (fields : List (Bor (List ℕ))) → 3 ≤ length fields → kind_of (texts (take (length fields - 2 - 1) (drop 1 fields))) ≡ None → None ≡ task_of (texts fields)
-task_stops fields h e =
+pub task_stops : (expires : Option ℕ) (fields : List (Bor (List ℕ))) → 3 ≤ length fields → kind_of (texts (take (length fields - 2 - 1) (drop 1 fields))) ≡ None → None ≡ task_until expires (texts fields)
+task_stops expires fields h e =
     let long : nat_le 3 (length fields) ≡ true = grind (arith, nat_tests) in
     rw (length-texts fields, long, kind_of-middle fields None e) refl
 
-pub task_goes : (fields : List (Bor (List ℕ))) (kind : Kind) → 3 ≤ length fields → kind_of (texts (take (length fields - 2 - 1) (drop 1 fields))) ≡ Some kind
+pub task_goes : (expires : Option ℕ) (fields : List (Bor (List ℕ))) (kind : Kind) → 3 ≤ length fields → kind_of (texts (take (length fields - 2 - 1) (drop 1 fields))) ≡ Some kind
     → task_with (get_or fields 0 (record { ref_ptr = (0, 0); now = [] })).now kind (get_or fields (length fields - 2) (record { ref_ptr = (0, 0); now = [] })).now
-    (get_or fields (length fields - 1) (record { ref_ptr = (0, 0); now = [] })).now ≡ task_of (texts fields)
-task_goes fields kind h e =
+    (get_or fields (length fields - 1) (record { ref_ptr = (0, 0); now = [] })).now expires ≡ task_until expires (texts fields)
+task_goes expires fields kind h e =
     let long : nat_le 3 (length fields) ≡ true = grind (arith, nat_tests) in
     rw (← word-texts fields 0, ← word-texts fields (length fields - 2), ← word-texts fields (length fields - 1), length-texts fields, long, kind_of-middle fields (Some kind) e) refl

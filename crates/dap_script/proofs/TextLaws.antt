@@ -9,12 +9,12 @@ use Rattle.std.specs.Bool.{◌==◌}
 use Rattle.std.specs.Char.{is_newline}
 use Rattle.std.specs.List.{All, join_with_byte, slice_split}
 use Rattle.std.specs.Str.Lines.{lines_of_parts, strip_carriage_return}
-use Rattle.dap_script.proofs.LineLaws.{All-spelling, line_chars}
+use Rattle.dap_script.proofs.LineLaws.{All-written, line_chars}
 use Rattle.dap_script.proofs.Visible.{IsVisible}
 use Rattle.dap_script.proofs.SplitLaws.{Lacks}
 use Rattle.dap_script.proofs.WordLaws.{All-left, All-right}
 use Rattle.dap_script.specs.Script.{lines_of}
-use Rattle.dap_script.specs.Spelling.{Begins, IsComment, IsInRange, IsLineEnd, SpellEach, SpellsLine, SpellsLines, spelling}
+use Rattle.dap_script.specs.Spelling.{Begins, IsComment, IsLineEnd, IsWritten, SpellEach, SpellsLine, SpellsLines}
 use Rattle.dap_script.specs.Words.{is_line_char}
 use Rattle.dap_script.specs.declared.line.Line.{Line}
 
@@ -52,10 +52,10 @@ comment_front rest (c ∷ front) h e =
     let others : rest ≡ front ++ 13 ∷ [] = cc e in
     (front, ap (λ x. x ∷ front) (sym first), All-left (λ x. is_line_char x ≡ true) front (13 ∷ []) (subst (All (λ x. is_line_char x ≡ true)) others h))
 
-ends_visibly : (line : Line) (front : List ℕ) → IsInRange line → spelling line ≡ front ++ 13 ∷ [] → ⊥
-ends_visibly line front h e =
+ends_visibly : (text : List ℕ) (line : Line) (front : List ℕ) → IsWritten text line → text ≡ front ++ 13 ∷ [] → ⊥
+ends_visibly text line front w e =
     let last = All-head (λ c. nat_eq c 13 ≡ false) 13 []
-    (All-right (λ c. nat_eq c 13 ≡ false) front (13 ∷ []) (subst (All (λ c. nat_eq c 13 ≡ false)) e (All-spelling (λ c. nat_eq c 13 ≡ false) refl no_return line h))) in
+    (All-right (λ c. nat_eq c 13 ≡ false) front (13 ∷ []) (subst (All (λ c. nat_eq c 13 ≡ false)) e (All-written (λ c. nat_eq c 13 ≡ false) refl no_return text line w))) in
     cc last
 
 strip_spelled : (text : List ℕ) (line : Line) → SpellsLine text line → SpellsLine (strip_carriage_return text) line
@@ -65,7 +65,7 @@ strip_spelled text line s = elim (strip_cases text) [
 ]
   where
     front : SpellsLine text line → text ≡ strip_carriage_return text ++ 13 ∷ [] → SpellsLine (strip_carriage_return text) line
-    front (inl t) cut = absurd (ends_visibly line (strip_carriage_return text) t.1 (sym t.0 ∙ cut))
+    front (inl t) cut = absurd (ends_visibly text line (strip_carriage_return text) t cut)
     front (inr t) cut = inr (t.0, comment_front t.1.0 (strip_carriage_return text) t.1.2 (sym t.1.1 ∙ cut))
 
 -- ---- pieces

@@ -46,7 +46,7 @@ pub listed : (n : ℕ) (fields : List (List ℕ)) → nat_eq (length fields) n �
 listed n fields h = fill_by_all (word fields) fields n [] (eqb-true (length fields) n h) (λ k lt. refl)
 
 -- the last two and those before them
-two_last : (fields : List (List ℕ)) → 2 ≤ length fields
+pub two_last : (fields : List (List ℕ)) → 2 ≤ length fields
     → fields ≡ take (length fields - 2) fields ++ word fields (length fields - 2) ∷ word fields (length fields - 1) ∷ []
 two_last fields h =
     let next : length fields - 2 + 1 ≡ length fields - 1 = omega arith in

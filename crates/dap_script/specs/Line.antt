@@ -1,32 +1,52 @@
 -- A line as words between single spaces.
-use Rattle.std.specs.Prelude.{ℕ, ◌-◌, List, [], ◌∷◌, length, take, drop, codes, Bool, true, nat_eq, nat_le, if◌then◌else◌, Option, Some, None}
+use Rattle.std.specs.Prelude.{ℕ, ◌-◌, List, [], ◌∷◌, length, take, drop, codes, Bool, true, ◌&&◌, nat_eq, nat_le, if◌then◌else◌, Option, Some, None}
 use Rattle.std.specs.List.{list_all, slice_split}
+use Rattle.std.specs.Option.{option_map_or}
 use Rattle.std.specs.Str.{bytes_eq}
 use Rattle.dap_bytes.specs.Name.{name_of}
 use Rattle.dap_bytes.specs.declared.limits.TheConstants.{GREATEST_MINIMUM, GREATEST_PRECISION, LATEST_TIME}
 use Rattle.vdaf_api.specs.declared.kind.Kind.{Kind}
-use Rattle.dap_script.specs.Fields.{◌>>=◌, bounded_of, kind_of, node_of, number_of, octets_of, report_of}
+use Rattle.dap_script.specs.Fields.{◌>>=◌, bounded_of, buckets_written, kind_of, node_of, number_of, octets_of, report_of}
 use Rattle.dap_script.specs.Words.{word, is_line_char, is_number_sign, is_space}
 use Rattle.dap_script.specs.declared.line.Line.{Line}
 use Rattle.dap_script.specs.declared.line.Line.TheVariants.{Blank, Task, Now, Measure, Upload, Collect, Restart}
 
--- the task of a kind whose other words are these
-abbrev pub task_with : List ℕ → Kind → List ℕ → List ℕ → Option Line
-task_with name kind min precision = do
+-- the task of a kind whose other words are these, which expires so
+abbrev pub task_with : List ℕ → Kind → List ℕ → List ℕ → Option ℕ → Option Line
+task_with name kind min precision expires = do
   name ← name_of name
   min ← bounded_of 1 GREATEST_MINIMUM min
   precision ← bounded_of 1 GREATEST_PRECISION precision
-  Some (Task name kind min precision)
+  Some (Task name kind min precision expires)
 
 -- the words of a task line's kind: all fields but the first and the last two
 abbrev pub kind_fields : List (List ℕ) → List (List ℕ)
 kind_fields fields = take (length fields - 3) (drop 1 fields)
 
--- `task NAME KIND.. MIN PRECISION`, after the keyword
-abbrev pub task_of : List (List ℕ) → Option Line
-task_of fields = if nat_le 3 (length fields) then (do
+-- `NAME KIND.. MIN PRECISION`, of a task that expires so
+abbrev pub task_until : Option ℕ → List (List ℕ) → Option Line
+task_until expires fields = if nat_le 3 (length fields) then (do
   kind ← kind_of (kind_fields fields)
-  task_with (word fields 0) kind (word fields (length fields - 2)) (word fields (length fields - 1))) else None
+  task_with (word fields 0) kind (word fields (length fields - 2)) (word fields (length fields - 1)) expires) else None
+
+-- the last word but one is `expires`
+abbrev pub has_expiry : List (List ℕ) → Bool
+has_expiry fields = nat_le 2 (length fields) && bytes_eq (word fields (length fields - 2)) (codes "expires")
+
+-- the fields before `expires T`, and T, where the fields end so
+abbrev pub expiry_split : List (List ℕ) → Option (List (List ℕ) × List ℕ)
+expiry_split fields =
+    if has_expiry fields then Some (take (length fields - 2) fields, word fields (length fields - 1)) else None
+
+-- a task that expires at the time that the word writes, if it does
+abbrev pub expiring : List (List ℕ) × List ℕ → Option Line
+expiring parts = do
+  t ← bounded_of 0 LATEST_TIME parts.1
+  task_until (Some t) parts.0
+
+-- `task NAME KIND.. MIN PRECISION [expires T]`, after the keyword
+abbrev pub task_of : List (List ℕ) → Option Line
+task_of fields = option_map_or expiring (expiry_split fields) (task_until None fields)
 
 -- `now T`, after the keyword
 abbrev pub now_of : List (List ℕ) → Option Line
@@ -50,12 +70,13 @@ upload_of fields = if nat_eq (length fields) 1 then (do
   report ← report_of (word fields 0)
   Some (Upload report)) else None
 
--- `collect NAME START`, after the keyword
+-- `collect NAME START [BUCKETS]`, after the keyword
 abbrev pub collect_of : List (List ℕ) → Option Line
-collect_of fields = if nat_eq (length fields) 2 then (do
+collect_of fields = if nat_le 2 (length fields) then (do
   name ← name_of (word fields 0)
   start ← bounded_of 0 LATEST_TIME (word fields 1)
-  Some (Collect name start)) else None
+  buckets ← buckets_written (drop 2 fields)
+  Some (Collect name (record { start = start; buckets = buckets }))) else None
 
 -- `restart NODE`, after the keyword
 abbrev pub restart_of : List (List ℕ) → Option Line

@@ -15,11 +15,11 @@ lines_of bytes = lines bytes
 -- the name that a task line gives, and none for other lines
 abbrev pub task_name : Line → List (List ℕ)
 task_name Blank = []
-task_name (Task name kind min precision) = name ∷ []
+task_name (Task name kind min precision expires) = name ∷ []
 task_name (Now t) = []
 task_name (Measure name id time value seed) = []
 task_name (Upload report) = []
-task_name (Collect name start) = []
+task_name (Collect name span) = []
 task_name (Restart node) = []
 
 -- the names of the task lines, in order

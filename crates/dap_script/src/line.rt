@@ -2,12 +2,13 @@
 
 ghost use Rattle.std.specs.Prelude.{◌≡◌, IfOk};
 ghost use Rattle.std.specs.List.{slice_split, list_all};
-ghost use Rattle.dap_script.specs.Line.{is_blank};
+ghost use Rattle.std.specs.Option.{option_map};
+ghost use Rattle.dap_script.specs.Line.{expiry_split, is_blank};
 ghost use Rattle.dap_script.specs.Words.{texts, is_line_char, is_space};
 
-use crate::fields::{bounded, node, number, octets, report, small};
+use crate::fields::{bounded, buckets, node, number, octets, report, small};
 use crate::kind::kind;
-use dap_bytes::{Bytes, GREATEST_MINIMUM, GREATEST_PRECISION, Id, LATEST_TIME, Name, Node};
+use dap_bytes::{Bytes, GREATEST_MINIMUM, GREATEST_PRECISION, Id, LATEST_TIME, Name, Node, Span};
 use std::alloc::{AllocError, Global};
 use vdaf_api::Kind;
 
@@ -17,12 +18,14 @@ pub enum Line {
     /// An empty line or a comment, which begins with `#`.
     Blank,
     /// A task: its name, what it measures, how many reports a batch must have to be collected (1 to
-    /// `GREATEST_MINIMUM`), and the length of its batches in units of time (1 to `GREATEST_PRECISION`).
+    /// `GREATEST_MINIMUM`), the length of its buckets in units of time (1 to `GREATEST_PRECISION`), and the moment from
+    /// which it takes no more reports (a time), if there is one.
     Task {
         name: Name,
         kind: Kind,
         min: u32,
         precision: u32,
+        expires: Option<u64>,
     },
     /// The moment rises to a time (at most `LATEST_TIME`, as each time).
     Now {
@@ -41,10 +44,10 @@ pub enum Line {
     Upload {
         report: Bytes,
     },
-    /// The collection of the task's batch that begins at a time.
+    /// The collection of the task's batch that begins at a time and has so many buckets.
     Collect {
         name: Name,
-        start: u64,
+        span: Span,
     },
     /// The node restarts.
     Restart {
@@ -53,30 +56,54 @@ pub enum Line {
 }
 
 impl Line {
-    ghost use Rattle.dap_script.specs.Line.{task_with, task_of, now_of, measure_of, upload_of, collect_of, restart_of};
+    ghost use Rattle.dap_script.specs.Line.{task_with, task_until, task_of, now_of, measure_of, upload_of, collect_of, restart_of};
     ghost use Rattle.dap_script.specs.Line.{line_of, line_of_words};
 
-    fn task_with(name: &str, kind: Kind, min: &str, precision: &str) -> Option<Line>
-        ensures { result ≡ task_with name.now kind min.now precision.now }
+    fn task_with(
+        name: &str,
+        kind: Kind,
+        min: &str,
+        precision: &str,
+        expires: Option<u64>,
+    ) -> Option<Line>
+        ensures { result ≡ task_with name.now kind min.now precision.now expires }
     {
         Some(Line::Task {
             name: Name::new(name.as_bytes())?,
             kind,
             min: small(min, GREATEST_MINIMUM)?,
             precision: small(precision, GREATEST_PRECISION)?,
+            expires,
         })
     }
 
-    /// `NAME KIND.. MIN PRECISION`
-    fn task(alloc: Global, fields: &[&str]) -> Result<Option<Line>, AllocError>
-        ensures { IfOk result (λ line. line ≡ task_of (texts fields.now)) }
+    /// `NAME KIND.. MIN PRECISION`, of a task that expires so.
+    fn task_until(
+        alloc: Global,
+        fields: &[&str],
+        expires: Option<u64>,
+    ) -> Result<Option<Line>, AllocError>
+        ensures { IfOk result (λ line. line ≡ task_until expires (texts fields.now)) }
     {
         let [name, words @ .., min, precision] = fields else {
             return Ok(None);
         };
         match kind(alloc, words)? {
             None => Ok(None),
-            Some(kind) => Ok(Line::task_with(name, kind, min, precision)),
+            Some(kind) => Ok(Line::task_with(name, kind, min, precision, expires)),
+        }
+    }
+
+    /// `NAME KIND.. MIN PRECISION [expires T]`
+    fn task(alloc: Global, fields: &[&str]) -> Result<Option<Line>, AllocError>
+        ensures { IfOk result (λ line. line ≡ task_of (texts fields.now)) }
+    {
+        let Some((others, t)) = split_expiry(fields) else {
+            return Line::task_until(alloc, fields, None);
+        };
+        match bounded(t, 0, LATEST_TIME) {
+            None => Ok(None),
+            Some(t) => Line::task_until(alloc, others, Some(t)),
         }
     }
 
@@ -121,16 +148,19 @@ impl Line {
         }
     }
 
-    /// `NAME START`
+    /// `NAME START [BUCKETS]`
     fn collect(fields: &[&str]) -> Option<Line>
         ensures { result ≡ collect_of (texts fields.now) }
     {
-        let [name, start] = *fields else {
+        let [name, start, rest @ ..] = fields else {
             return None;
         };
         Some(Line::Collect {
             name: Name::new(name.as_bytes())?,
-            start: bounded(start, 0, LATEST_TIME)?,
+            span: Span {
+                start: bounded(start, 0, LATEST_TIME)?,
+                buckets: buckets(rest)?,
+            },
         })
     }
 
@@ -178,6 +208,20 @@ impl Line {
             }
             Err(_) => Ok(None),
         }
+    }
+}
+
+/// The fields of a task line before `expires T`, and T, where it ends so.
+fn split_expiry<'a>(fields: &'a [&'a str]) -> Option<(&'a [&'a str], &'a str)>
+    ensures { option_map (λ parts. (texts parts.0.now, parts.1.now)) result ≡ expiry_split (texts fields.now) }
+{
+    let [others @ .., keyword, t] = fields else {
+        return None;
+    };
+    if *keyword == "expires" {
+        Some((others, *t))
+    } else {
+        None
     }
 }
 

@@ -4,7 +4,7 @@ ghost use Rattle.std.specs.Prelude.{◌≤◌, length};
 ghost use Rattle.dap_bytes.specs.declared.limits.TheConstants.{LONGEST_SCRIPT};
 
 use super::*;
-use dap_bytes::{Bytes, LONGEST_SCRIPT, Name, Node};
+use dap_bytes::{Bytes, LONGEST_SCRIPT, Name, Node, Span};
 use std::alloc::{AllocError, Global};
 use std::test::Fail;
 use vdaf_api::{Bounds, Kind};
@@ -12,21 +12,27 @@ use vdaf_api::{Bounds, Kind};
 const TEXT: &[u8] = b"# every form of line
 task v count 3 3600\r
 
-task s-1 sum 64 1000000 1000000000
+task s-1 sum 64 1000000 1000000000 expires 999999999999999999
 task h_ histogram 0,10,18446744073709551615 1 1
 now 999999999999999999
 measure v 000102030405060708090a0b0c0d0e0f 10 18446744073709551615 ffffffffffffffffffffffffffffff00
 upload Zm8=
 collect v 7200
+collect v 7200 1
+collect v 7200 2
+collect v 7200 64
 restart leader
 restart helper";
 
 /// Lines that are read, each as a script of its own.
-const TAKEN: [&[u8]; 22] = [
+const TAKEN: [&[u8]; 31] = [
     b"# \x00\x7f\r is a comment",
     b"# ends with a return\r",
     b"collect v 999999999999999999",
     b"collect nnnnnnnnnnnnnnnnnnnnnnnnnnnnnnnn 0",
+    b"collect v 0 1",
+    b"collect v 0 64",
+    b"collect v 999999999999999999 64",
     b"now 0",
     b"now 999999999999999999",
     b"task v count 1 1",
@@ -34,6 +40,12 @@ const TAKEN: [&[u8]; 22] = [
     b"task v count 1 1000000000",
     b"task v sum 1 1 1",
     b"task v sum 64 1 1",
+    b"task v count 1 1 expires 0",
+    b"task v count 1 1 expires 999999999999999999",
+    b"task v sum 1 1 1 expires 1",
+    b"task v histogram 7 1 1 expires 1",
+    b"task expires count 1 1",
+    b"task expires count 1 1 expires 1",
     b"task v histogram 0 1 1",
     b"task v histogram 1,2 1 1",
     b"task v histogram 18446744073709551615 1 1",
@@ -48,7 +60,7 @@ const TAKEN: [&[u8]; 22] = [
 ];
 
 /// Lines that are refused.
-const REFUSED: [&[u8]; 73] = [
+const REFUSED: [&[u8]; 98] = [
     b"# \x80",
     b"collect v 0\r",
     b" # a",
@@ -64,7 +76,20 @@ const REFUSED: [&[u8]; 73] = [
     b"collect v ",
     b"collect v 1_0",
     b"collect v 1000000000000000000",
-    b"collect v 0 1",
+    b"collect v 0 0",
+    b"collect v 0 65",
+    b"collect v 0 256",
+    b"collect v 0 257",
+    b"collect v 0 18446744073709551617",
+    b"collect v 0 01",
+    b"collect v 0 +1",
+    b"collect v 0 -1",
+    b"collect v 0 ",
+    b"collect v 0  1",
+    b"collect v 0 1 ",
+    b"collect v 0 1 1",
+    b"collect v 0 x",
+    b"collect v 1000000000000000000 1",
     b"collect v 18446744073709551616",
     b"collect nnnnnnnnnnnnnnnnnnnnnnnnnnnnnnnnn 0",
     b"collect  0",
@@ -79,6 +104,18 @@ const REFUSED: [&[u8]; 73] = [
     b"task v count 1 1000000001",
     b"task v count 1",
     b"task v count 1 1 1",
+    b"task v count 1 1 expires",
+    b"task v count 1 1 expires ",
+    b"task v count 1 1 expires 1000000000000000000",
+    b"task v count 1 1 expires 01",
+    b"task v count 1 1 expires -1",
+    b"task v count 1 1 expires 1 2",
+    b"task v count 1 1 Expires 1",
+    b"task v count 1 1 expires 1 expires 1",
+    b"task v count 1 expires 1",
+    b"task v count 1 1 1 expires 1",
+    b"task v expires 1",
+    b"task v count expires 1 1",
     b"task v vote 1 1",
     b"task v Count 1 1",
     b"task v",
@@ -149,13 +186,27 @@ fn name(text: &[u8]) -> Result<Name, Fail> {
     Ok(Name::new(text).ok_or("a name")?)
 }
 
-fn task(text: &[u8], kind: Kind, min: u32, precision: u32) -> Result<Line, Fail> {
+fn task(
+    text: &[u8],
+    kind: Kind,
+    min: u32,
+    precision: u32,
+    expires: Option<u64>,
+) -> Result<Line, Fail> {
     Ok(Line::Task {
         name: name(text)?,
         kind,
         min,
         precision,
+        expires,
     })
+}
+
+fn collection(name: Name, start: u64, buckets: u8) -> Line {
+    Line::Collect {
+        name,
+        span: Span { start, buckets },
+    }
 }
 
 #[test]
@@ -168,10 +219,16 @@ fn a_script_is_its_lines(rt: HostRuntime) -> Result<(), Fail> {
     seed[15] = 0;
     let expected = [
         Line::Blank,
-        task(b"v", Kind::Count, 3, 3600)?,
+        task(b"v", Kind::Count, 3, 3600, None)?,
         Line::Blank,
-        task(b"s-1", Kind::Sum { bits: 64 }, 1_000_000, 1_000_000_000)?,
-        task(b"h_", Kind::Histogram { bounds }, 1, 1)?,
+        task(
+            b"s-1",
+            Kind::Sum { bits: 64 },
+            1_000_000,
+            1_000_000_000,
+            Some(999_999_999_999_999_999),
+        )?,
+        task(b"h_", Kind::Histogram { bounds }, 1, 1, None)?,
         Line::Now {
             t: 999_999_999_999_999_999,
         },
@@ -183,10 +240,10 @@ fn a_script_is_its_lines(rt: HostRuntime) -> Result<(), Fail> {
             seed,
         },
         Line::Upload { report },
-        Line::Collect {
-            name: v,
-            start: 7200,
-        },
+        collection(v, 7200, 1),
+        collection(v, 7200, 1),
+        collection(v, 7200, 2),
+        collection(v, 7200, 64),
         Line::Restart { node: Node::Leader },
         Line::Restart { node: Node::Helper },
     ];
@@ -304,31 +361,54 @@ fn a_task_is_printed_as_its_line(rt: HostRuntime) -> Result<(), Fail> {
     let alloc = rt.alloc();
     let mut out = Vec::from_slice(alloc, b"# tasks\n")?;
     let bounds = Bounds::new(Vec::from_slice(alloc, &[0, 10, u64::MAX])?);
-    print_task(alloc, &name(b"v")?, &Kind::Count, 3, 3600, &mut out)?;
-    print_task(
-        alloc,
-        &name(b"s-1")?,
-        &Kind::Sum { bits: 64 },
-        1,
-        1,
-        &mut out,
-    )?;
-    print_task(
-        alloc,
-        &name(b"h")?,
-        &Kind::Histogram { bounds },
-        7,
-        20,
-        &mut out,
-    )?;
+    let tasks = [
+        (b"v".as_slice(), Kind::Count, 3, 3600, None),
+        (b"s-1", Kind::Sum { bits: 64 }, 1, 1, Some(0)),
+        (
+            b"h",
+            Kind::Histogram { bounds },
+            7,
+            20,
+            Some(999_999_999_999_999_999),
+        ),
+    ];
+    for (text, kind, min, precision, expires) in &tasks {
+        print_task(
+            alloc,
+            &name(text)?,
+            kind,
+            *min,
+            *precision,
+            *expires,
+            &mut out,
+        )?;
+    }
     assert_eq!(rt;
         out.as_slice(),
         b"# tasks
 task v count 3 3600
-task s-1 sum 64 1 1
-task h histogram 0,10,18446744073709551615 7 20
+task s-1 sum 64 1 1 expires 0
+task h histogram 0,10,18446744073709551615 7 20 expires 999999999999999999
 "
             .as_slice()
+    );
+    Ok(())
+}
+
+#[test]
+fn batches_are_printed_with_their_buckets_where_they_are_several(
+    rt: HostRuntime,
+) -> Result<(), Fail> {
+    let alloc = rt.alloc();
+    let mut out = Vec::new(alloc);
+    for (start, buckets) in [(0, 1), (7200, 2), (999_999_999_999_999_999, 64)] {
+        put_span(alloc, &mut out, &Span { start, buckets })?;
+        out.push(b';')?;
+    }
+    put_number(alloc, &mut out, u128::MAX)?;
+    assert_eq!(rt;
+        out.as_slice(),
+        b"0;7200 2;999999999999999999 64;340282366920938463463374607431768211455".as_slice()
     );
     Ok(())
 }

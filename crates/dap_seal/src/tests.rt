@@ -42,7 +42,7 @@ const REQUEST: [u8; 54] = [
 fn what_was_sealed_is_opened(rt: HostRuntime) -> Result<(), Fail> {
     let alloc = rt.alloc();
     let name = Name::new(b"v").expect(&rt, "a name");
-    let task = trial(name, Kind::Count, 3, 3600);
+    let task = trial(name, Kind::Count, 3, 3600, None);
     let head = Head {
         name,
         id: ID,
@@ -76,7 +76,7 @@ fn what_was_sealed_is_opened(rt: HostRuntime) -> Result<(), Fail> {
 fn an_honest_report_is_spelled(rt: HostRuntime) -> Result<(), Fail> {
     let alloc = rt.alloc();
     let name = Name::new(b"v").expect(&rt, "a name");
-    let task = trial(name, Kind::Count, 3, 3600);
+    let task = trial(name, Kind::Count, 3, 3600, None);
     let seed = [0, 1, 2, 3, 4, 5, 6, 7, 8, 9, 10, 11, 12, 13, 14, 15];
     let report = make_report(alloc, &task, &Toy {}, &ID, 10, 7, &seed)?;
     assert_eq!(rt; report.as_slice(), REPORT.as_slice());
@@ -87,7 +87,13 @@ fn an_honest_report_is_spelled(rt: HostRuntime) -> Result<(), Fail> {
 
 /// The task `v` of the report above.
 fn count_task(rt: &impl Abort) -> Task {
-    trial(Name::new(b"v").expect(rt, "a name"), Kind::Count, 3, 3600)
+    trial(
+        Name::new(b"v").expect(rt, "a name"),
+        Kind::Count,
+        3,
+        3600,
+        None,
+    )
 }
 
 /// The head of the report above.
@@ -209,7 +215,7 @@ fn parts_of_requests_are_prepared(rt: HostRuntime) -> Result<(), Fail> {
     let name = Name::new(b"v").expect(&rt, "a name");
     let mut tasks: Tasks<Toy> = Tasks::new(alloc);
     if tasks
-        .push(alloc, trial(name, Kind::Count, 3, 3600))
+        .push(alloc, trial(name, Kind::Count, 3, 3600, None))
         .is_err()
     {
         return Err("no memory".into());

@@ -1,19 +1,20 @@
 -- What a table is read as, it has, and what it has is read.
-use Rattle.std.proofs.Common.{◌≡◌, ℕ, ℤ, pos, negsuc, ◌^◌, ◌<◌, ◌≤◌, List, [], ◌∷◌, true, nat_le, ◌&&◌, Option, Some, None, Result, Ok, Err, refl, ap, ◌∙◌, subst, arith}
+use Rattle.std.proofs.Common.{◌≡◌, ℕ, ℤ, pos, negsuc, ◌^◌, ◌<◌, ◌≤◌, List, [], ◌∷◌, true, nat_le, codes, ◌&&◌, Option, Some, None, Result, Ok, Err, refl, ap, ◌∙◌, subst, arith}
 use Rattle.std.proofs.lemmas.Bool.{and_parts, leb-true, le-leb}
 use Rattle.std.proofs.lemmas.List.Elements.{All-cons, All-head, All-nil, All-tail}
 use Rattle.std.proofs.lemmas.Option.{cond_some, option_and_then_some, same_Some}
 use Rattle.std.specs.List.{All}
 use Rattle.std.specs.Prelude.{ok_or}
-use Rattle.std.specs.Option.{option_and_then}
+use Rattle.std.specs.Option.{option_and_then, option_map_or}
 use Rattle.std.specs.Result.{result_ok}
 use Rattle.hex.specs.Hex.{decode_sized}
 use Rattle.toml.specs.Data.{Data, string, integer, float, boolean, datetime, array, table, Items, no_items, item, Members, as_str, as_integer, as_array, get_member}
+use Rattle.dap_bytes.specs.declared.limits.TheConstants.{LATEST_TIME}
 use Rattle.vdaf_api.proofs.Ranges.{is_kind-decides}
 use Rattle.vdaf_api.specs.Kind.{AreBounds, is_kind}
 use Rattle.vdaf_api.specs.declared.kind.Kind.TheVariants.{Histogram}
-use Rattle.dap_tasks.specs.Fields.{ranged, number_of, numbers_of, bounds_of, octets_of, keys_of, field}
-use Rattle.dap_tasks.specs.TaskFile.{Holds, HoldsNumber, HoldsOctets, HoldsKeys, integers}
+use Rattle.dap_tasks.specs.Fields.{ranged, number_of, numbers_of, bounds_of, octets_of, keys_of, field, optional_field}
+use Rattle.dap_tasks.specs.TaskFile.{Holds, HoldsExpiry, HoldsNumber, HoldsOctets, HoldsKeys, integers}
 use Rattle.vdaf_api.specs.declared.keys.SealKeys.{SealKeys}
 
 -- ---- what is read was there
@@ -75,6 +76,28 @@ number_read entries key least greatest n e = field_holds key (number_of least gr
     let r = number_value least greatest value n read in
     record { holds = found ∙ ap Some r.0; not_below = r.1; not_above = r.2 })
 
+-- a number that may be missing
+pub expiry_read : (entries : Members) (expires : Option ℕ) → optional_field (codes "expires") (number_of 0 LATEST_TIME) entries ≡ Ok expires → HoldsExpiry entries expires
+expiry_read entries expires e =
+    elim (get_member (codes "expires") entries) as (λ o. get_member (codes "expires") entries ≡ o
+    → option_map_or (λ value. option_map_or (λ x. Ok (Some x)) (number_of 0 LATEST_TIME value) (Err (codes "expires"))) o (Ok None) ≡ Ok expires → HoldsExpiry entries expires) [
+      | None ↦ λ found h. elim expires as (λ x. ◌≡◌ {A = Result (Option ℕ) (List ℕ)} (Ok None) (Ok x) → HoldsExpiry entries x) [
+        | None ↦ λ k. found
+        | Some t ↦ λ k. cc k
+      ] h
+      | Some value ↦ λ found h. elim (number_of 0 LATEST_TIME value) as (λ r. number_of 0 LATEST_TIME value ≡ r
+          → option_map_or (λ x. Ok (Some x)) r (Err (codes "expires")) ≡ Ok expires → HoldsExpiry entries expires) [
+            | None ↦ λ read k. cc k
+            | Some t ↦ λ read k. elim expires as (λ x. ◌≡◌ {A = Result (Option ℕ) (List ℕ)} (Ok (Some t)) (Ok x) → HoldsExpiry entries x) [
+              | None ↦ λ l. cc l
+              | Some u ↦ λ l.
+                  let same : t ≡ u = cc l in
+                  let r = number_value 0 LATEST_TIME value t read in
+                  subst (HoldsNumber entries (codes "expires") 0 LATEST_TIME) same (record { holds = found ∙ ap Some r.0; not_below = r.1; not_above = r.2 })
+            ] k
+          ] refl h
+    ] refl e
+
 numbers_value : (items : Items) (numbers : List ℕ) → numbers_of items ≡ Some numbers → (items ≡ integers numbers) × All (λ n. n < 2 ^ 63) numbers
 numbers_value no_items numbers e = subst (λ ns. (no_items ≡ integers ns) × All (λ n. n < 2 ^ 63) ns) (same_Some [] numbers e) (refl, All-nil (λ n. n < 2 ^ 63))
 numbers_value (item value items) numbers e =
@@ -121,6 +144,10 @@ keys_read entries key keys e = field_holds key keys_of entries keys e (λ value 
 
 pub number_back : (entries : Members) (key : List ℕ) (least greatest n : ℕ) → HoldsNumber entries key least greatest n → field key (number_of least greatest) entries ≡ Ok n
 number_back entries key least greatest n h = rw (h.holds, le-leb least n h.not_below, le-leb n greatest h.not_above) refl
+
+pub expiry_back : (entries : Members) (expires : Option ℕ) → HoldsExpiry entries expires → optional_field (codes "expires") (number_of 0 LATEST_TIME) entries ≡ Ok expires
+expiry_back entries None h = rw h refl
+expiry_back entries (Some t) h = rw (h.holds, le-leb 0 t h.not_below, le-leb t LATEST_TIME h.not_above) refl
 
 numbers_back : (numbers : List ℕ) → All (λ n. n < 2 ^ 63) numbers → numbers_of (integers numbers) ≡ Some numbers
 numbers_back [] small = refl

@@ -7,13 +7,14 @@ use Rattle.std.specs.List.{All, list_any}
 use Rattle.std.specs.Str.{bytes_eq}
 use Rattle.toml.specs.Data.{string, Members, as_str}
 use Rattle.dap_bytes.specs.Name.{IsName, is_name, name_of}
+use Rattle.dap_bytes.specs.declared.limits.TheConstants.{LATEST_TIME}
 use Rattle.vdaf_api.specs.declared.kind.Kind.{Kind}
 use Rattle.vdaf_api.specs.declared.kind.Kind.TheVariants.{Count, Sum, Histogram}
-use Rattle.dap_tasks.specs.Fields.{number_of, bounds_of, octets_of, keys_of, new_name_of, unless_taken, field, first_of, is_other, refused, no_others, table_keys}
+use Rattle.dap_tasks.specs.Fields.{number_of, bounds_of, octets_of, keys_of, new_name_of, unless_taken, field, optional_field, first_of, is_other, refused, no_others, table_keys}
 use Rattle.dap_tasks.specs.File.{◌>>=◌, kind_named, kind_of, task_of}
 use Rattle.dap_tasks.specs.Task.{PlainTask, has_name}
 use Rattle.dap_tasks.specs.TaskFile.{Holds, HoldsKind, IsTaskTable}
-use Rattle.dap_tasks.proofs.FieldLaws.{field_holds, string_read, number_read, number_back, octets_read, octets_back, keys_read, keys_back, bounds_value, bounds_back}
+use Rattle.dap_tasks.proofs.FieldLaws.{field_holds, string_read, number_read, number_back, expiry_read, expiry_back, octets_read, octets_back, keys_read, keys_back, bounds_value, bounds_back}
 
 -- the step before, where there is a value
 pub after_ok : {A B E P : Type 0} (f : A → Result B E) (r : Result A E) (y : B) → (r >>= f) ≡ Ok y → ((x : A) → r ≡ Ok x → f x ≡ Ok y → P) → P
@@ -118,7 +119,8 @@ task_read before entries task e =
     after_ok _ (kind_of entries) task e1 (λ kind r2 e2.
     after_ok _ (field (codes "min") (number_of 1 1000000) entries) task e2 (λ min r3 e3.
     after_ok _ (field (codes "precision") (number_of 1 1000000000) entries) task e3 (λ precision r4 e4.
-    after_ok _ (field (codes "verify") (octets_of 16) entries) task e4 (λ verify r5 e5.
+    after_ok _ (optional_field (codes "expires") (number_of 0 LATEST_TIME) entries) task e4 (λ expires rx ex.
+    after_ok _ (field (codes "verify") (octets_of 16) entries) task ex (λ verify r5 e5.
     after_ok _ (field (codes "leader") keys_of entries) task e5 (λ leader r6 e6.
     after_ok _ (field (codes "helper") keys_of entries) task e6 (λ helper r7 e7.
     after_ok _ (no_others kind entries) task e7 (λ u r8 e8.
@@ -130,13 +132,14 @@ task_read before entries task e =
         kind = kind_read entries kind r2;
         min = number_read entries (codes "min") 1 1000000 min r3;
         precision = number_read entries (codes "precision") 1 1000000000 precision r4;
+        expires = expiry_read entries expires rx;
         verify = octets_read entries (codes "verify") 16 verify r5;
         leader = keys_read entries (codes "leader") leader r6;
         helper = keys_read entries (codes "helper") helper r7;
         no_others = others_read kind entries u r8;
       },
       named.2,
-    )))))))))
+    ))))))))))
 
 pub task_back : (before : List PlainTask) (entries : Members) (task : PlainTask) → IsNewTask before entries task → task_of before entries ≡ Ok task
 task_back before entries task h =
@@ -146,6 +149,7 @@ task_back before entries task h =
       kind_back entries task.kind t.kind,
       number_back entries (codes "min") 1 1000000 task.min t.min,
       number_back entries (codes "precision") 1 1000000000 task.precision t.precision,
+      expiry_back entries task.expires t.expires,
       octets_back entries (codes "verify") 16 task.verify t.verify,
       keys_back entries (codes "leader") task.leader t.leader,
       keys_back entries (codes "helper") task.helper t.helper,

@@ -1,7 +1,7 @@
 -- What the values of a task's keys in a task file say.
 use Rattle.std.specs.Prelude.{ℕ, ℤ, pos, negsuc, List, [], ◌∷◌, ◌++◌, slice_range, codes, Bool, ◌&&◌, not, nat_le, if◌then◌else◌, Option, Some, None, Result, Ok, Err, ok_or, filter}
 use Rattle.std.specs.List.{list_any}
-use Rattle.std.specs.Option.{option_and_then}
+use Rattle.std.specs.Option.{option_and_then, option_map_or}
 use Rattle.std.specs.Ordering.{nat_cmp, is_lt}
 use Rattle.std.specs.Cmp.Lexicographic.{slice_cmp}
 use Rattle.std.specs.Result.{result_ok}
@@ -78,6 +78,11 @@ new_name_of before value = do
 abbrev pub field : {A : Type 0} → List ℕ → (Data → Option A) → Members → Result A (List ℕ)
 field key reads table = ok_or (option_and_then reads (get_member key table)) key
 
+-- The value of a key that a table may lack. The key is refused where it has a value of another form.
+abbrev pub optional_field : {A : Type 0} → List ℕ → (Data → Option A) → Members → Result (Option A) (List ℕ)
+optional_field key reads table =
+    option_map_or (λ value. option_map_or (λ x. Ok (Some x)) (reads value) (Err key)) (get_member key table) (Ok None)
+
 -- the keys of a table
 abbrev pub table_keys : Members → List (List ℕ)
 table_keys no_members = []
@@ -91,7 +96,9 @@ keys_of_kind (Histogram bounds) = codes "bounds" ∷ []
 
 -- the keys that every task has
 abbrev pub common_keys : List (List ℕ)
-common_keys = codes "name" ∷ codes "kind" ∷ codes "min" ∷ codes "precision" ∷ codes "verify" ∷ codes "leader" ∷ codes "helper" ∷ []
+common_keys =
+    codes "name" ∷ codes "kind" ∷ codes "min" ∷ codes "precision" ∷ codes "expires"
+    ∷ codes "verify" ∷ codes "leader" ∷ codes "helper" ∷ []
 
 -- no key of a task of the kind
 abbrev pub is_other : Kind → List ℕ → Bool
@@ -112,6 +119,10 @@ abbrev pub refused : Option (List ℕ) → Result (Unit {0}) (List ℕ)
 refused None = Ok tt
 refused (Some key) = Err key
 
--- The table has no other keys than a task of the kind. The first of them, in the order of their bytes, is refused else.
+-- the first key of a table, in the order of their bytes, that is no key of a task of the kind
+abbrev pub first_other : Kind → Members → Option (List ℕ)
+first_other kind table = first_of (filter (is_other kind) (table_keys table))
+
+-- The table has no other keys than a task of the kind. The first of them is refused else.
 abbrev pub no_others : Kind → Members → Result (Unit {0}) (List ℕ)
-no_others kind table = refused (first_of (filter (is_other kind) (table_keys table)))
+no_others kind table = refused (first_other kind table)

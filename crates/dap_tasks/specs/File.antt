@@ -4,11 +4,11 @@ use Rattle.std.specs.Option.{option_and_then}
 use Rattle.std.specs.Str.{bytes_eq, is_utf8}
 use Rattle.toml.specs.Data.{Items, no_items, item, Members, as_str, as_array, as_table, get_member}
 use Rattle.toml.specs.Parse.{parse_document}
-use Rattle.dap_bytes.specs.declared.limits.TheConstants.{GREATEST_MINIMUM, GREATEST_PRECISION, LONGEST_TASK_FILE}
+use Rattle.dap_bytes.specs.declared.limits.TheConstants.{GREATEST_MINIMUM, GREATEST_PRECISION, LATEST_TIME, LONGEST_TASK_FILE}
 use Rattle.vdaf_api.specs.declared.kind.Kind.{Kind}
 use Rattle.vdaf_api.specs.declared.kind.Kind.TheVariants.{Count, Sum, Histogram}
 use Rattle.dap_tasks.specs.Task.{PlainTask}
-use Rattle.dap_tasks.specs.Fields.{field, number_of, bounds_of, octets_of, keys_of, new_name_of, no_others, table_keys}
+use Rattle.dap_tasks.specs.Fields.{field, optional_field, number_of, bounds_of, octets_of, keys_of, new_name_of, no_others, table_keys}
 
 -- why a file is no list of tasks: the task, counted from 1, or 0 for the file as a whole, and its field
 pub record Refusal : Type 0 where
@@ -54,6 +54,7 @@ task_of before table = do
   kind ← kind_of table
   min ← field (codes "min") (number_of 1 GREATEST_MINIMUM) table
   precision ← field (codes "precision") (number_of 1 GREATEST_PRECISION) table
+  expires ← optional_field (codes "expires") (number_of 0 LATEST_TIME) table
   verify ← field (codes "verify") (octets_of 16) table
   leader ← field (codes "leader") keys_of table
   helper ← field (codes "helper") keys_of table
@@ -63,6 +64,7 @@ task_of before table = do
     kind = kind;
     min = min;
     precision = precision;
+    expires = expires;
     verify = verify;
     leader = leader;
     helper = helper;

@@ -1,9 +1,10 @@
 -- What reading a task file answers.
-use Rattle.std.specs.Prelude.{◌≡◌, ℕ, List, map, Result, Ok, Err, String, Vec}
+use Rattle.std.specs.Prelude.{◌≡◌, ℕ, List, map, Option, Result, Ok, Err, String, Vec}
 use Rattle.std.specs.Borrow.{Bor}
 use Rattle.std.specs.BTreeMap.{BTreeMap}
+use Rattle.std.specs.Option.{option_map}
 use Rattle.std.specs.declared.alloc.Global.{Global}
-use Rattle.toml.specs.Data.{Members}
+use Rattle.toml.specs.Data.{Data, Members, get_member}
 use Rattle.toml.specs.View.{table_view}
 use Rattle.toml.specs.declared.value.Value.{Value}
 use Rattle.dap_tasks.specs.File.{Refusal}
@@ -16,6 +17,14 @@ use Rattle.dap_tasks.specs.declared.table.TableFault.TheVariants as table
 -- the tables that are referred to
 abbrev pub tables_seen : List (Bor (BTreeMap (String Global) Value)) → List Members
 tables_seen tables = map (λ table. table_view table.now) tables
+
+-- the value that a table has at a key
+abbrev pub value_of : List ℕ → BTreeMap (String Global) Value → Option Data
+value_of key table = get_member key (table_view table)
+
+-- the tables that are referred to, where there are any
+abbrev pub tables_told : Option (Vec (Bor (BTreeMap (String Global) Value)) Global) → Option (List Members)
+tables_told tables = option_map (λ ts. tables_seen ts.items) tables
 
 -- the refusal that a fault gives, which want of memory isn't
 abbrev pub Fails : TasksFault → Result (List PlainTask) Refusal → Type 0

@@ -1,11 +1,11 @@
 -- Which bytes are a file of tasks, whatever the order of the checks.
-use Rattle.std.specs.Prelude.{◌≡◌, ℕ, ◌+◌, ◌^◌, ◌<◌, ◌≤◌, pos, List, [], ◌∷◌, ◌++◌, length, slice_range, codes, false, All, Some, Ok, Err, IsUtf8}
+use Rattle.std.specs.Prelude.{◌≡◌, ℕ, ◌+◌, ◌^◌, ◌<◌, ◌≤◌, pos, List, [], ◌∷◌, ◌++◌, length, slice_range, codes, false, All, Option, Some, None, Ok, Err, IsUtf8}
 use Rattle.std.specs.List.{AllZip}
 use Rattle.hex.specs.Hex.{decode_sized}
 use Rattle.toml.specs.Data.{Data, string, integer, array, table, Items, no_items, item, Members, no_members, member, get_member}
 use Rattle.toml.specs.Parse.{parse_document}
 use Rattle.dap_bytes.specs.Name.{IsName}
-use Rattle.dap_bytes.specs.declared.limits.TheConstants.{GREATEST_MINIMUM, GREATEST_PRECISION, LONGEST_TASK_FILE}
+use Rattle.dap_bytes.specs.declared.limits.TheConstants.{GREATEST_MINIMUM, GREATEST_PRECISION, LATEST_TIME, LONGEST_TASK_FILE}
 use Rattle.vdaf_api.specs.Kind.{AreBounds}
 use Rattle.vdaf_api.specs.declared.kind.Kind.{Kind}
 use Rattle.vdaf_api.specs.declared.kind.Kind.TheVariants.{Count, Sum, Histogram}
@@ -46,10 +46,16 @@ integers (number ∷ numbers) = item (integer (pos number)) (integers numbers)
 -- the kind's word, and what the kind has beside it
 abbrev pub HoldsKind : Members → Kind → Type 0
 HoldsKind members Count = Holds members (codes "kind") (string (codes "count"))
-HoldsKind members (Sum bits) = Holds members (codes "kind") (string (codes "sum")) × HoldsNumber members (codes "bits") 1 64 bits
+HoldsKind members (Sum bits) =
+    Holds members (codes "kind") (string (codes "sum")) × HoldsNumber members (codes "bits") 1 64 bits
 HoldsKind members (Histogram bounds) =
     Holds members (codes "kind") (string (codes "histogram")) × Holds members (codes "bounds") (array (integers bounds))
     × AreBounds bounds × All (λ bound. bound < 2 ^ 63) bounds
+
+-- the table says when the task expires, or lacks the key where it never does
+abbrev pub HoldsExpiry : Members → Option ℕ → Type 0
+HoldsExpiry members None = get_member (codes "expires") members ≡ None
+HoldsExpiry members (Some t) = HoldsNumber members (codes "expires") 0 LATEST_TIME t
 
 -- the table has each field of the task, and no other key
 pub record IsTaskTable (members : Members) (task : PlainTask) : Type 0 where
@@ -58,6 +64,7 @@ pub record IsTaskTable (members : Members) (task : PlainTask) : Type 0 where
   pub kind : HoldsKind members task.kind
   pub min : HoldsNumber members (codes "min") 1 GREATEST_MINIMUM task.min
   pub precision : HoldsNumber members (codes "precision") 1 GREATEST_PRECISION task.precision
+  pub expires : HoldsExpiry members task.expires
   pub verify : HoldsOctets members (codes "verify") 16 task.verify
   pub leader : HoldsKeys members (codes "leader") task.leader
   pub helper : HoldsKeys members (codes "helper") task.helper
@@ -68,7 +75,8 @@ abbrev pub table_items : List Members → Items
 table_items [] = no_items
 table_items (members ∷ tables) = item (table members) (table_items tables)
 
--- The bytes are no more than a file may have, in UTF-8, and TOML with the one key `task`, whose value is the array of these tables.
+-- The bytes are no more than a file may have, in UTF-8, and TOML with the one key `task`, whose value is the array of
+-- these tables.
 pub record HasTables (bytes : List ℕ) (tables : List Members) : Type 0 where
   pub short : length bytes ≤ LONGEST_TASK_FILE
   pub utf8 : IsUtf8 bytes

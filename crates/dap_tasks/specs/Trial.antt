@@ -1,5 +1,5 @@
 -- Trial tasks, whose keys come from their names.
-use Rattle.std.specs.Prelude.{ℕ, List, ◌∷◌, ◌++◌, replicate, codes}
+use Rattle.std.specs.Prelude.{ℕ, List, ◌∷◌, ◌++◌, replicate, codes, Option}
 use Rattle.aes_cmac_prg.specs.Cmac.{cmac}
 use Rattle.vdaf_api.specs.declared.kind.Kind.{Kind}
 use Rattle.dap_tasks.specs.Task.{PlainTask}
@@ -17,13 +17,14 @@ leader_keys name = record { enc = trial_key (codes "leader enc") name; mac = tri
 abbrev pub helper_keys : List ℕ → SealKeys
 helper_keys name = record { enc = trial_key (codes "helper enc") name; mac = trial_key (codes "helper mac") name }
 
--- the trial task of a name with this kind, minimum and precision
-abbrev pub trial_of : List ℕ → Kind → ℕ → ℕ → PlainTask
-trial_of name kind min precision = record {
+-- the trial task of a name with this kind, minimum, precision and expiry
+abbrev pub trial_of : List ℕ → Kind → ℕ → ℕ → Option ℕ → PlainTask
+trial_of name kind min precision expires = record {
   name = name;
   kind = kind;
   min = min;
   precision = precision;
+  expires = expires;
   verify = trial_key (codes "verify") name;
   leader = leader_keys name;
   helper = helper_keys name;

@@ -14,14 +14,23 @@ pub enum Cause {
     Value,
     /// The report's time is more than `MOST_AHEAD` units above the moment.
     Early,
-    /// The task has expired. No task has an end yet, so nothing is refused so.
+    /// The moment is at or past the task's expiry.
     Expired,
     /// Another report of the task has the identifier.
     Conflict,
-    /// The report's batch was collected.
+    /// The report's bucket lies in a collected batch.
     Collected,
-    /// The start is no multiple of the task's precision.
+    /// The batch's start is no multiple of the task's precision, or its last bucket begins later than any time.
     Start,
+}
+
+/// What became of an upload.
+#[derive(Clone, Copy, Debug, PartialEq, Eq)]
+pub struct Answer {
+    /// The line that offered it, counted from 1.
+    pub line: u32,
+    /// Why it was refused; none where it was accepted, now or before.
+    pub cause: Option<Cause>,
 }
 
 /// What a report comes to that is offered.

@@ -10,8 +10,8 @@ use thiserror::Error;
 #[derive(Debug, PartialEq, Eq, Drop, Error)]
 pub enum TasksFault {
     /// The first task that is refused, counted from 1, and its first field in the order of the checks: `name`, `kind`,
-    /// `bits`, `bounds`, `min`, `precision`, `verify`, `leader`, `helper`, then the other keys in the order of their
-    /// bytes. Task 0 and the field `file` say that the file as a whole isn't of the form.
+    /// `bits`, `bounds`, `min`, `precision`, `expires`, `verify`, `leader`, `helper`, then the other keys in the order of
+    /// their bytes. Task 0 and the field `file` say that the file as a whole isn't of the form.
     #[error("task {task} field {field}")]
     Refused { task: u32, field: Text },
     /// There was no memory to read it.

@@ -3,9 +3,10 @@
 ghost use Rattle.std.specs.Prelude.{◌≡◌, ◌≤◌, IfOk, IfSome};
 ghost use Rattle.std.specs.List.{list_any};
 ghost use Rattle.std.specs.Option.{option_map, option_and_then};
-ghost use Rattle.toml.specs.Data.{as_str, as_array, get_member};
-ghost use Rattle.toml.specs.View.{view, items_view, table_view};
+ghost use Rattle.toml.specs.Data.{as_str, as_array};
+ghost use Rattle.toml.specs.View.{view, items_view};
 ghost use Rattle.dap_tasks.specs.Fields.{number_of, numbers_of, ascending, bounds_of, octets_of, keys_of, new_name_of};
+ghost use Rattle.dap_tasks.specs.Reads.{value_of};
 ghost use Rattle.dap_tasks.specs.Task.{has_name};
 ghost use Rattle.vdaf_api.specs.Kind.{IsKind};
 ghost use Rattle.vdaf_api.specs.declared.kind.Kind.TheVariants as PlainKind;
@@ -21,14 +22,14 @@ use vdaf_api::{Bounds, Kind, SealKeys};
 const MAX_BOUND: u64 = 9_223_372_036_854_775_807;
 
 /// The value of a key.
-fn value_at<'a>(table: &'a Table, key: &str) -> Option<&'a Value>
-    ensures { option_map (λ value. view value.now) result ≡ get_member key.now (table_view table.now) }
+pub fn value_at<'a>(table: &'a Table, key: &str) -> Option<&'a Value>
+    ensures { option_map (λ value. view value.now) result ≡ value_of key.now table.now }
 {
     table.get(key)
 }
 
 /// A whole number from the least to the greatest.
-fn number(value: &Value, least: u64, greatest: u64) -> Option<u64>
+pub fn number(value: &Value, least: u64, greatest: u64) -> Option<u64>
     ensures number { result ≡ number_of least greatest (view value.now) }
     ensures within { IfSome result (λ number. (least ≤ number) × (number ≤ greatest)) }
 {
@@ -42,7 +43,7 @@ fn number(value: &Value, least: u64, greatest: u64) -> Option<u64>
 
 /// A whole number from 1 to the greatest, at a key.
 pub fn number_at(table: &Table, key: &str, greatest: u32) -> Option<u32>
-    ensures number { result ≡ option_and_then (number_of 1 greatest) (get_member key.now (table_view table.now)) }
+    ensures number { result ≡ option_and_then (number_of 1 greatest) (value_of key.now table.now) }
     ensures within { IfSome result (λ number. (1 ≤ number) × (number ≤ greatest)) }
 {
     let number = number(value_at(table, key)?, 1, u64::from(greatest))?;
@@ -51,14 +52,14 @@ pub fn number_at(table: &Table, key: &str, greatest: u32) -> Option<u32>
 
 /// A string at a key.
 pub fn word_at<'a>(table: &'a Table, key: &str) -> Option<&'a str>
-    ensures { option_map (λ word. word.now) result ≡ option_and_then as_str (get_member key.now (table_view table.now)) }
+    ensures { option_map (λ word. word.now) result ≡ option_and_then as_str (value_of key.now table.now) }
 {
     value_at(table, key)?.as_str()
 }
 
 /// An array at a key.
 pub fn array_at<'a>(table: &'a Table, key: &str) -> Option<&'a [Value]>
-    ensures { option_map (λ values. items_view values.now) result ≡ option_and_then as_array (get_member key.now (table_view table.now)) }
+    ensures { option_map (λ values. items_view values.now) result ≡ option_and_then as_array (value_of key.now table.now) }
 {
     let values = value_at(table, key)?.as_array()?;
     Some(values.as_slice())
@@ -89,7 +90,7 @@ fn ascending(bounds: Bounds) -> Option<Kind>
 
 /// A histogram with the bounds at a key: 1 to 1,023 numbers, strictly ascending.
 pub fn histogram_at(alloc: Global, table: &Table, key: &str) -> Result<Option<Kind>, AllocError>
-    ensures kind { IfOk result (λ kind. kind ≡ option_map PlainKind.Histogram (option_and_then bounds_of (get_member key.now (table_view table.now)))) }
+    ensures kind { IfOk result (λ kind. kind ≡ option_map PlainKind.Histogram (option_and_then bounds_of (value_of key.now table.now))) }
     ensures ranges { IfOk result (λ kind. IfSome kind IsKind) }
 {
     let Some(values) = array_at(table, key) else {
@@ -103,14 +104,14 @@ pub fn histogram_at(alloc: Global, table: &Table, key: &str) -> Result<Option<Ki
 
 /// Hex digits of either case at a key, as many as N bytes have.
 pub fn octets_at<const N: usize>(table: &Table, key: &str) -> Option<[u8; N]>
-    ensures { result ≡ option_and_then (octets_of N) (get_member key.now (table_view table.now)) }
+    ensures { result ≡ option_and_then (octets_of N) (value_of key.now table.now) }
 {
     <[u8; N] as FromHex>::from_hex(word_at(table, key)?).ok()
 }
 
 /// The keys of a seal at a key: 64 hex digits, first those of the cipher's key.
 pub fn keys_at(table: &Table, key: &str) -> Option<SealKeys>
-    ensures { result ≡ option_and_then keys_of (get_member key.now (table_view table.now)) }
+    ensures { result ≡ option_and_then keys_of (value_of key.now table.now) }
 {
     let octets: [u8; 32] = octets_at(table, key)?;
     let mut keys = SealKeys {
@@ -131,7 +132,7 @@ fn is_taken(before: &[Task], name: &Name) -> bool
 
 /// A name at a key that none of the tasks has.
 pub fn new_name_at(before: &[Task], table: &Table, key: &str) -> Option<Name>
-    ensures { result ≡ option_and_then (new_name_of before.now) (get_member key.now (table_view table.now)) }
+    ensures { result ≡ option_and_then (new_name_of before.now) (value_of key.now table.now) }
 {
     let name = Name::new(word_at(table, key)?.as_bytes())?;
     if is_taken(before, &name) {

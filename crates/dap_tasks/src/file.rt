@@ -4,7 +4,7 @@ ghost use Rattle.std.specs.Prelude.{◌≡◌, ◌≤◌, [], length, All, Err, 
 ghost use Rattle.std.specs.Option.{option_map};
 ghost use Rattle.toml.specs.View.{items_view, table_view};
 ghost use Rattle.dap_tasks.specs.File.{document_of, tables_in, tables_under_task, tasks_after, tasks_of};
-ghost use Rattle.dap_tasks.specs.Reads.{Fails, Reads, tables_seen};
+ghost use Rattle.dap_tasks.specs.Reads.{Fails, Reads, tables_seen, tables_told};
 ghost use Rattle.dap_tasks.specs.Task.{IsTask};
 ghost use Rattle.dap_tasks.specs.Tasks.{AreDistinct};
 
@@ -32,7 +32,7 @@ fn document(alloc: Global, bytes: &[u8]) -> Result<Option<Table>, AllocError>
 
 /// The tables of an array that has nothing else.
 fn tables(alloc: Global, values: &[Value]) -> Result<Option<Vec<&Table>>, AllocError>
-    ensures { IfOk result (λ tables. option_map (λ tables. tables_seen tables.items) tables ≡ tables_in (items_view values.now)) }
+    ensures { IfOk result (λ tables. tables_told tables ≡ tables_in (items_view values.now)) }
 {
     let mut tables = Vec::new(alloc);
     for value in values {
@@ -46,7 +46,7 @@ fn tables(alloc: Global, values: &[Value]) -> Result<Option<Vec<&Table>>, AllocE
 
 /// The tables of a document that has the key `task` alone, with an array of tables.
 fn tables_under_task(alloc: Global, document: &Table) -> Result<Option<Vec<&Table>>, AllocError>
-    ensures { IfOk result (λ tables. option_map (λ tables. tables_seen tables.items) tables ≡ tables_under_task (table_view document.now)) }
+    ensures { IfOk result (λ tables. tables_told tables ≡ tables_under_task (table_view document.now)) }
 {
     if document.len() != 1 {
         return Ok(None);

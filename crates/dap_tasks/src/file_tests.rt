@@ -17,7 +17,7 @@ helper = "303132333435363738393a3b3c3d3e3f404142434445464748494a4b4c4d4e4f"
 "#;
 
 /// Parts of the example, what stands in their place, and the refusal.
-const REFUSED: [(&str, &str, &str); 24] = [
+const REFUSED: [(&str, &str, &str); 44] = [
     ("[[task]]", "[task]", "task 0 field file"),
     ("[[task]]", "[[tasks]]", "task 0 field file"),
     ("[[task]]", "alpha = 1\n[[task]]", "task 0 field file"),
@@ -30,10 +30,26 @@ const REFUSED: [(&str, &str, &str); 24] = [
     ("\"count\"", "\"mean\"", "task 1 field kind"),
     (
         "\"count\"\nmin = 3",
+        "\"mean\"\nmin = 0",
+        "task 1 field kind",
+    ),
+    (
+        "\"count\"\nmin = 3",
         "\"sum\"\nmin = 0",
         "task 1 field bits",
     ),
+    (
+        "\"count\"\nmin = 3",
+        "\"histogram\"\nmin = 0",
+        "task 1 field bounds",
+    ),
+    ("\"count\"", "\"sum\"\nbits = 0", "task 1 field bits"),
     ("\"count\"", "\"sum\"\nbits = 65", "task 1 field bits"),
+    (
+        "\"count\"",
+        "\"histogram\"\nbounds = []",
+        "task 1 field bounds",
+    ),
     ("\"count\"", "\"count\"\nbits = 8", "task 1 field bits"),
     (
         "\"count\"",
@@ -54,9 +70,61 @@ const REFUSED: [(&str, &str, &str); 24] = [
     ),
     ("min = 3", "min = 0\nalpha = 1", "task 1 field min"),
     ("3600", "1000000001", "task 1 field precision"),
+    ("3600", "3600\nexpires = -1", "task 1 field expires"),
+    (
+        "3600",
+        "3600\nexpires = 1000000000000000000",
+        "task 1 field expires",
+    ),
+    ("3600", "3600\nexpires = \"5\"", "task 1 field expires"),
+    ("3600", "3600\nexpires = 1.0", "task 1 field expires"),
+    ("3600", "3600\nexpires = true", "task 1 field expires"),
+    ("3600", "3600\nexpires = []", "task 1 field expires"),
+    (
+        "3600",
+        "3600\nexpires = 1\nexpires = 1",
+        "task 0 field file",
+    ),
+    (
+        "3600",
+        "3600\nexpires = 9223372036854775808",
+        "task 0 field file",
+    ),
+    ("3600", "0\nexpires = -1", "task 1 field precision"),
+    (
+        "3600\nverify = \"00",
+        "3600\nexpires = -1\nverify = \"0g",
+        "task 1 field expires",
+    ),
+    (
+        "3600\nverify = \"00",
+        "3600\nexpires = 0\nverify = \"0g",
+        "task 1 field verify",
+    ),
+    ("3600", "3600\nExpires = 1", "task 1 field Expires"),
+    (
+        "3600\nverify = \"00",
+        "0\nverify = \"0g",
+        "task 1 field precision",
+    ),
+    (
+        "0e0f\"\nleader = \"10",
+        "0e0\"\nleader = \"1g",
+        "task 1 field verify",
+    ),
+    (
+        "2e2f\"\nhelper = \"30",
+        "2e2\"\nhelper = \"3g",
+        "task 1 field leader",
+    ),
     ("\"00", "\"0g", "task 1 field verify"),
     ("2e2f\"", "2e\"", "task 1 field leader"),
     ("helper =", "helpers =", "task 1 field helper"),
+    (
+        "min = 3",
+        "min = 3\na-key-of-more-than-thirty-two-characters = 1",
+        "task 1 field a-key-of-more-than-thirty-two-characters",
+    ),
     (
         "min = 3",
         "min = 3\nzeta = 1\nalpha = 2",
@@ -97,6 +165,7 @@ fn the_example_is_one_task(rt: HostRuntime) -> Result<(), Fail> {
     assert_eq!(rt; task.name.as_bytes(), b"v".as_slice());
     assert!(rt; task.kind == Kind::Count);
     assert_eq!(rt; (task.min, task.precision), (3, 3600));
+    assert!(rt; task.expires.is_none());
     let found = [
         task.verify,
         task.leader.enc,
@@ -108,6 +177,27 @@ fn the_example_is_one_task(rt: HostRuntime) -> Result<(), Fail> {
         let first = 0x000102030405060708090a0b0c0d0e0f
             + i as u128 * 0x10101010101010101010101010101010;
         assert_eq!(rt; u128::from_be_bytes(found[i]), first, "key {i}");
+    }
+    Ok(())
+}
+
+#[test]
+fn a_task_says_when_it_expires(rt: HostRuntime) -> Result<(), Fail> {
+    let alloc = rt.alloc();
+    for (text, expires) in [
+        ("3600\nexpires = 0", 0),
+        ("3600\nexpires = 50", 50),
+        (
+            "3600\nexpires = 999999999999999999",
+            999_999_999_999_999_999,
+        ),
+    ] {
+        let text = EXAMPLE.replace(alloc, "3600", text)?;
+        let tasks = read_tasks(alloc, text.as_bytes())?;
+        let [task] = tasks.as_slice() else {
+            return Err(Fail::from("one task"));
+        };
+        assert_eq!(rt; task.expires, Some(expires));
     }
     Ok(())
 }
@@ -126,13 +216,20 @@ fn the_first_refusal_is_named(rt: HostRuntime) -> Result<(), Fail> {
 fn ends_of_ranges_are_read(rt: HostRuntime) -> Result<(), Fail> {
     let alloc = rt.alloc();
     for (old, new) in [
+        ("\"count\"", "\"sum\"\nbits = 1"),
         ("\"count\"", "\"sum\"\nbits = 64"),
+        ("\"count\"", "\"histogram\"\nbounds = [7]"),
         (
             "\"count\"",
             "\"histogram\"\nbounds = [0, 9223372036854775807]",
         ),
+        ("min = 3", "min = 1"),
         ("min = 3", "min = 1000000"),
+        ("3600", "1"),
         ("3600", "1000000000"),
+        ("3600", "3600\nexpires = 0"),
+        ("3600", "3600\nexpires = 999999999999999999"),
+        ("[[task]]", "[[task]]\nexpires = 1"),
         ("2e2f", "2E2F"),
     ] {
         let text = EXAMPLE.replace(alloc, old, new)?;
@@ -173,6 +270,26 @@ fn short_files_are_read_or_refused(rt: HostRuntime) -> Result<(), Fail> {
         assert_eq!(rt; answer(alloc, text)?.as_str(), want, "{text}");
     }
     assert!(rt; read_tasks(alloc, &[0xff]).is_err());
+    Ok(())
+}
+
+#[test]
+fn a_file_may_have_many_tasks(rt: HostRuntime) -> Result<(), Fail> {
+    let alloc = rt.alloc();
+    let mut text = String::new(alloc);
+    for number in 0..40 {
+        let name = format!(in alloc; "\"v{number}\"")?;
+        let task = EXAMPLE.replace(alloc, "\"v\"", &name)?;
+        text.push_str(&task)?;
+    }
+    assert_eq!(rt; answer(alloc, &text)?.as_str(), "40 tasks");
+    text.push_str(EXAMPLE)?;
+    text.push_str(EXAMPLE)?;
+    assert_eq!(rt; answer(alloc, &text)?.as_str(), "task 42 field name");
+    assert_eq!(rt;
+        format!(in alloc; "{}", TasksFault::NoMemory)?.as_str(),
+        "no memory"
+    );
     Ok(())
 }
 

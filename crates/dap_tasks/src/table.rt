@@ -1,18 +1,22 @@
 //! The tables of a task file.
 
-ghost use Rattle.std.specs.Prelude.{◌≡◌, filter, false, IfOk};
+ghost use Rattle.std.specs.Prelude.{◌≡◌, codes, false, IfOk};
+ghost use Rattle.dap_bytes.specs.declared.limits.TheConstants.{LATEST_TIME};
 ghost use Rattle.std.specs.List.{list_any};
 ghost use Rattle.std.specs.Option.{option_map};
 ghost use Rattle.toml.specs.View.{table_view};
+ghost use Rattle.vdaf_api.specs.TaskNumbers.{IsExpiry};
 ghost use Rattle.vdaf_api.specs.Kind.{IsKind};
-ghost use Rattle.dap_tasks.specs.Fields.{is_other, first_of, table_keys};
+ghost use Rattle.dap_tasks.specs.Fields.{is_other, first_other, number_of, optional_field};
 ghost use Rattle.dap_tasks.specs.File.{kind_of, kind_named, task_of};
 ghost use Rattle.dap_tasks.specs.Reads.{Takes};
 ghost use Rattle.dap_tasks.specs.Task.{IsTask, has_name};
 
-use crate::fields::{histogram_at, keys_at, new_name_at, number_at, octets_at, word_at};
+use crate::fields::{
+    histogram_at, keys_at, new_name_at, number, number_at, octets_at, value_at, word_at,
+};
 use crate::task::Task;
-use dap_bytes::{GREATEST_MINIMUM, GREATEST_PRECISION};
+use dap_bytes::{GREATEST_MINIMUM, GREATEST_PRECISION, LATEST_TIME};
 use std::alloc::{AllocError, Global};
 use toml::Table;
 use vdaf_api::Kind;
@@ -66,7 +70,7 @@ fn is_other(kind: &Kind, key: &str) -> bool
     ensures { result ≡ is_other kind.now key.now }
 {
     match key {
-        "name" | "kind" | "min" | "precision" | "verify" | "leader" | "helper" => false,
+        "name" | "kind" | "min" | "precision" | "expires" | "verify" | "leader" | "helper" => false,
         "bits" => !matches!(kind, Kind::Sum { .. }),
         "bounds" => !matches!(kind, Kind::Histogram { .. }),
         _ => true,
@@ -75,7 +79,7 @@ fn is_other(kind: &Kind, key: &str) -> bool
 
 /// The first key, in the order of their bytes, that is none of a task of the kind.
 fn other_key<'a>(kind: &Kind, table: &'a Table) -> Option<&'a str>
-    ensures { option_map (λ key. key.now) result ≡ first_of (filter (is_other kind.now) (table_keys (table_view table.now))) }
+    ensures { option_map (λ key. key.now) result ≡ first_other kind.now (table_view table.now) }
 {
     for key in table.keys() {
         if is_other(kind, key.as_str()) {
@@ -83,6 +87,20 @@ fn other_key<'a>(kind: &Kind, table: &'a Table) -> Option<&'a str>
         }
     }
     None
+}
+
+/// When a task expires, if its table says so.
+fn expiry<'a>(table: &'a Table) -> Result<Option<u64>, TableFault<'a>>
+    ensures expiry { Takes result (optional_field (codes "expires") (number_of 0 LATEST_TIME) (table_view table.now)) }
+    ensures range { IfOk result IsExpiry }
+{
+    match value_at(table, "expires") {
+        None => Ok(None),
+        Some(value) => {
+            let t = number(value, 0, LATEST_TIME).ok_or(TableFault::Refused("expires"))?;
+            Ok(Some(t))
+        }
+    }
 }
 
 /// The task that a table is, behind those before it.
@@ -97,6 +115,7 @@ pub fn task<'a>(alloc: Global, before: &[Task], table: &'a Table) -> Result<Task
     let precision = number_at(table, "precision", GREATEST_PRECISION).ok_or(TableFault::Refused(
         "precision",
     ))?;
+    let expires = expiry(table)?;
     let verify = octets_at(table, "verify").ok_or(TableFault::Refused("verify"))?;
     let leader = keys_at(table, "leader").ok_or(TableFault::Refused("leader"))?;
     let helper = keys_at(table, "helper").ok_or(TableFault::Refused("helper"))?;
@@ -108,6 +127,7 @@ pub fn task<'a>(alloc: Global, before: &[Task], table: &'a Table) -> Result<Task
         kind,
         min,
         precision,
+        expires,
         verify,
         leader,
         helper,

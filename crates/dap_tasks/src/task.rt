@@ -14,8 +14,10 @@ pub struct Task {
     pub kind: Kind,
     /// How many reports a batch must have to be collected: 1 to 1,000,000.
     pub min: u32,
-    /// The length of its batches in units of time: 1 to 1,000,000,000.
+    /// The length of its buckets in units of time: 1 to 1,000,000,000.
     pub precision: u32,
+    /// The moment from which it takes no more reports, in units of time and at most `LATEST_TIME`, if there is one.
+    pub expires: Option<u64>,
     /// The key with which both aggregators verify reports.
     pub verify: [u8; 16],
     /// The keys of the leader's half.
@@ -26,7 +28,7 @@ pub struct Task {
 
 impl Model for Task {
     ghost use Rattle.dap_tasks.specs.Task.{PlainTask};
-    ghost use Rattle.vdaf_api.specs.TaskNumbers.{AreTaskNumbers};
+    ghost use Rattle.vdaf_api.specs.TaskNumbers.{AreTaskNumbers, IsExpiry};
 
     ghost Value = { PlainTask };
 
@@ -35,10 +37,11 @@ impl Model for Task {
       kind = t.kind;
       min = t.min;
       precision = t.precision;
+      expires = t.expires;
       verify = t.verify;
       leader = t.leader;
       helper = t.helper;
     } };
 
-    ghost invariant = { λ t. AreTaskNumbers t.kind t.min t.precision };
+    ghost invariant = { λ t. AreTaskNumbers t.kind t.min t.precision × IsExpiry t.expires };
 }

@@ -34,7 +34,7 @@ const KEYS: [(&str, [u128; 5]); 2] = [
 fn trial_keys_come_from_names(rt: HostRuntime) -> Result<(), Fail> {
     for (name, keys) in &KEYS {
         let name = Name::new(name.as_bytes()).ok_or("a name")?;
-        let task = trial(name, Kind::Count, 3, 3600);
+        let task = trial(name, Kind::Count, 3, 3600, Some(50));
         let found = [
             task.verify,
             task.leader.enc,
@@ -47,6 +47,7 @@ fn trial_keys_come_from_names(rt: HostRuntime) -> Result<(), Fail> {
         }
         assert!(rt; task.name == name);
         assert_eq!(rt; (task.min, task.precision), (3, 3600));
+        assert_eq!(rt; task.expires, Some(50));
     }
     Ok(())
 }
@@ -58,14 +59,61 @@ fn tasks_are_found_by_their_names(rt: HostRuntime) -> Result<(), Fail> {
     let second = Name::new(b"b").ok_or("a name")?;
     let mut tasks: Tasks<Toy> = Tasks::new(alloc);
     assert!(rt; tasks.find(&first).is_none());
-    assert!(rt; tasks.push(alloc, trial(first, Kind::Count, 1, 10)).is_ok());
     assert!(rt;
         tasks
-            .push(alloc, trial(second, Kind::Sum { bits: 8 }, 2, 20))
+            .push(alloc, trial(first, Kind::Count, 1, 10, None))
+            .is_ok()
+    );
+    assert!(rt;
+        tasks
+            .push(alloc, trial(second, Kind::Sum { bits: 8 }, 2, 20, Some(0)))
             .is_ok()
     );
     let (task, _) = tasks.find(&second).ok_or("the task")?;
     assert_eq!(rt; (task.min, task.precision), (2, 20));
     assert!(rt; task.kind == Kind::Sum { bits: 8 });
     Ok(())
+}
+
+/// A moment, a report's time, and whether it is early.
+const EARLY: [(Option<u64>, u64, bool); 8] = [
+    (None, 0, false),
+    (None, 999_999_999_999_999_999, false),
+    (Some(0), 300, false),
+    (Some(0), 301, true),
+    (Some(100), 400, false),
+    (Some(100), 500, true),
+    (
+        Some(999_999_999_999_999_999),
+        999_999_999_999_999_999,
+        false,
+    ),
+    (Some(u64::MAX), u64::MAX, false),
+];
+
+/// A moment, a task's expiry, and whether the task has expired.
+const EXPIRED: [(Option<u64>, Option<u64>, bool); 9] = [
+    (None, None, false),
+    (None, Some(0), false),
+    (Some(999_999_999_999_999_999), None, false),
+    (Some(0), Some(0), true),
+    (Some(0), Some(1), false),
+    (Some(49), Some(50), false),
+    (Some(50), Some(50), true),
+    (Some(51), Some(50), true),
+    (
+        Some(999_999_999_999_999_998),
+        Some(999_999_999_999_999_999),
+        false,
+    ),
+];
+
+#[test]
+fn moments_make_reports_early_and_tasks_expire(rt: HostRuntime) {
+    for (moment, time, early) in EARLY {
+        assert_eq!(rt; is_early(moment, time), early);
+    }
+    for (moment, expires, expired) in EXPIRED {
+        assert_eq!(rt; is_expired(moment, expires), expired);
+    }
 }

@@ -1,8 +1,7 @@
 //! Trial tasks.
 
 ghost use Rattle.std.specs.Prelude.{◌≡◌, ◌≤◌, length, codes};
-ghost use Rattle.vdaf_api.specs.Kind.{IsKind};
-ghost use Rattle.vdaf_api.specs.TaskNumbers.{AreTaskNumbers};
+ghost use Rattle.vdaf_api.specs.TaskNumbers.{AreTaskNumbers, IsExpiry};
 ghost use Rattle.dap_tasks.specs.Trial.{trial_key, leader_keys, helper_keys, trial_of};
 
 use crate::task::Task;
@@ -29,9 +28,10 @@ fn trial_key(label: &[u8], name: &Name) -> [u8; 16]
 
 /// The trial task of a name: each of its keys is the tag (CMAC with AES-128, NIST SP 800-38B), under the key of zeros, of
 /// the key's label, a zero byte and the name. It takes no memory.
-pub fn trial(name: Name, kind: Kind, min: u32, precision: u32) -> Task
-    requires { AreTaskNumbers kind min precision }
-    ensures { result ≡ trial_of name kind min precision }
+pub fn trial(name: Name, kind: Kind, min: u32, precision: u32, expires: Option<u64>) -> Task
+    requires numbers { AreTaskNumbers kind min precision }
+    requires expiry { IsExpiry expires }
+    ensures { result ≡ trial_of name kind min precision expires }
 {
     let verify = trial_key(b"verify", &name);
     let leader = SealKeys {
@@ -47,6 +47,7 @@ pub fn trial(name: Name, kind: Kind, min: u32, precision: u32) -> Task
         kind,
         min,
         precision,
+        expires,
         verify,
         leader,
         helper,

@@ -1,15 +1,16 @@
 -- The lines of a load are those of a script, and their texts spell them.
-use Rattle.std.proofs.Common.{◌≡◌, ℕ, zero, suc, ◌<◌, ◌%◌, ◌/◌, ◌^◌, List, [], ◌∷◌, ◌++◌, map, replicate, refl, sym, ap, subst, inl, arith}
+use Rattle.std.proofs.Common.{◌≡◌, ℕ, zero, suc, ◌<◌, ◌≤◌, ◌%◌, ◌/◌, ◌^◌, List, [], ◌∷◌, ◌++◌, map, replicate, refl, sym, ap, subst, inl, arith}
 use Rattle.std.proofs.Math.Nat.{mod-lt}
 use Rattle.std.proofs.lemmas.List.Elements.{All-append, All-cons, All-head, All-nil, All-tail}
 use Rattle.std.specs.Int.{byte_at, bytes_high_first, to_be_bytes, w32, w64}
 use Rattle.std.specs.List.{All, IsDistinct, flat_map, range_with_len}
 use Rattle.std.specs.Str.{bytes_eq}
+use Rattle.dap_bytes.specs.Spans.{one_bucket}
 use Rattle.dap_script.specs.Script.{task_names}
-use Rattle.dap_script.specs.Spelling.{IsInRange, IsOctets, IsScript, SpellsLines, spelling}
+use Rattle.dap_script.specs.Spelling.{IsInRange, IsOctets, IsScript, SpellsLines, ended, spelling, words_of}
 use Rattle.dap_script.specs.declared.line.Line.{Line}
 use Rattle.dap_script.specs.declared.line.Line.TheVariants.{Collect}
-use Rattle.load_maker.specs.Load.{ended, identifier_of, load_lines, load_name, load_task, load_text, measurement, seed_of}
+use Rattle.load_maker.specs.Load.{collections, identifier_of, load_lines, load_name, load_task, load_text, measurement, seed_of}
 
 -- ---- spelling
 
@@ -21,7 +22,7 @@ ended-spells (line ∷ lines) h = inl (record {
   end = 10 ∷ [];
   rest = flat_map ended lines;
   joined = refl;
-  spelled = inl (refl, All-head IsInRange line lines h);
+  spelled = inl (record { words = words_of line; are_words = inl refl; joined = refl; in_range = All-head IsInRange line lines h });
   ended = inl refl;
   goes_on = ended-spells lines (All-tail IsInRange line lines h);
 })
@@ -63,15 +64,18 @@ measurements_in_range seed (i ∷ numbers) =
 
 pub load_in_range : (n seed : ℕ) → All IsInRange (load_lines n seed)
 load_in_range n seed =
-    let both : All IsInRange (Collect load_name 0 ∷ Collect load_name 3600 ∷ []) =
-    All-cons IsInRange (Collect load_name 0) (Collect load_name 3600 ∷ []) (refl, omega arith) (All-cons IsInRange (Collect load_name 3600) [] (refl, omega arith) (All-nil IsInRange)) in
-    All-cons IsInRange load_task (map (measurement seed) (range_with_len 0 n) ++ Collect load_name 0 ∷ Collect load_name 3600 ∷ [])
-    (refl, (omega arith, omega arith), omega arith, omega arith, omega arith, omega arith, tt)
-    (All-append IsInRange (map (measurement seed) (range_with_len 0 n)) (Collect load_name 0 ∷ Collect load_name 3600 ∷ []) (measurements_in_range seed (range_with_len 0 n)) both)
+    let one_each : (1 ≤ 1) × (1 ≤ 64) = (omega arith, omega arith) in
+    let last : All IsInRange (Collect load_name (one_bucket 3600) ∷ []) =
+    All-cons IsInRange (Collect load_name (one_bucket 3600)) [] (refl, omega arith, one_each) (All-nil IsInRange) in
+    let both : All IsInRange collections =
+    All-cons IsInRange (Collect load_name (one_bucket 0)) (Collect load_name (one_bucket 3600) ∷ []) (refl, omega arith, one_each) last in
+    All-cons IsInRange load_task (map (measurement seed) (range_with_len 0 n) ++ collections)
+    (refl, (omega arith, omega arith), omega arith, omega arith, omega arith, omega arith, tt, tt)
+    (All-append IsInRange (map (measurement seed) (range_with_len 0 n)) collections (measurements_in_range seed (range_with_len 0 n)) both)
 
 -- ---- one task
 
-no_more_tasks : (seed : ℕ) (numbers : List ℕ) → task_names (map (measurement seed) numbers ++ Collect load_name 0 ∷ Collect load_name 3600 ∷ []) ≡ []
+no_more_tasks : (seed : ℕ) (numbers : List ℕ) → task_names (map (measurement seed) numbers ++ collections) ≡ []
 no_more_tasks seed [] = refl
 no_more_tasks seed (i ∷ numbers) = no_more_tasks seed numbers
 

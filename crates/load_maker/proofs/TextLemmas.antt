@@ -6,9 +6,9 @@ use Rattle.std.proofs.lemmas.List.{append_assoc, flat_map_more}
 use Rattle.std.specs.Fmt.{digits}
 use Rattle.std.specs.List.{flat_map, range_with_len}
 use Rattle.hex.specs.Hex.{encode_with}
+use Rattle.dap_script.specs.Spelling.{ended}
 use Rattle.dap_script.specs.declared.line.Line.{Line}
-use Rattle.dap_script.specs.declared.line.Line.TheVariants.{Collect}
-use Rattle.load_maker.specs.Load.{ended, load_name, load_task, load_text, measurement}
+use Rattle.load_maker.specs.Load.{collections, load_task, load_text, measurement}
 
 -- the digits of bytes behind others
 pub encode_with-append : (digits a b : List ℕ) → encode_with digits (a ++ b) ≡ encode_with digits a ++ encode_with digits b
@@ -32,9 +32,8 @@ pub text-whole : (seed n : ℕ) (before after : List ℕ)
 unfolding digits
 text-whole seed n before after e f =
     let lines : List Line = map (measurement seed) (range_with_len 0 n) in
-    let both : List Line = Collect load_name 0 ∷ Collect load_name 3600 ∷ [] in
-    f ∙ ap (λ (t : List ℕ). t ++ flat_map ended both) e ∙ append_assoc (ended load_task) (flat_map ended lines) (flat_map ended both)
-    ∙ ap (λ (t : List ℕ). ended load_task ++ t) (sym (flat_map-append ended lines both))
+    f ∙ ap (λ (t : List ℕ). t ++ flat_map ended collections) e ∙ append_assoc (ended load_task) (flat_map ended lines) (flat_map ended collections)
+    ∙ ap (λ (t : List ℕ). ended load_task ++ t) (sym (flat_map-append ended lines collections))
 
 -- the task alone
 pub text-first : (seed : ℕ) (first : List ℕ) → first ≡ codes "task load sum 16 1 3600\n"

@@ -1,9 +1,10 @@
 -- The script of a load.
-use Rattle.std.specs.Prelude.{ℕ, ◌+◌, ◌*◌, ◌%◌, List, [], ◌∷◌, ◌++◌, map, replicate, codes}
+use Rattle.std.specs.Prelude.{ℕ, ◌+◌, ◌*◌, ◌%◌, List, [], ◌∷◌, ◌++◌, map, replicate, codes, None}
 use Rattle.std.specs.Int.{to_be_bytes, w32, w64}
 use Rattle.std.specs.List.{flat_map, range_with_len}
+use Rattle.dap_bytes.specs.Spans.{one_bucket}
 use Rattle.vdaf_api.specs.declared.kind.Kind.TheVariants.{Sum}
-use Rattle.dap_script.specs.Spelling.{spelling}
+use Rattle.dap_script.specs.Spelling.{ended}
 use Rattle.dap_script.specs.declared.line.Line.{Line}
 use Rattle.dap_script.specs.declared.line.Line.TheVariants.{Task, Measure, Collect}
 
@@ -11,9 +12,9 @@ use Rattle.dap_script.specs.declared.line.Line.TheVariants.{Task, Measure, Colle
 abbrev pub load_name : List ℕ
 load_name = codes "load"
 
--- the task: a sum of numbers of 16 bits, whose batches span 3,600 units of time
+-- the task: a sum of numbers of 16 bits, whose buckets span 3,600 units of time, and which never expires
 abbrev pub load_task : Line
-load_task = Task load_name (Sum 16) 1 3600
+load_task = Task load_name (Sum 16) 1 3600 None
 
 -- the identifier of measurement i: i modulo 256 in a byte, then i in 15 bytes
 abbrev pub identifier_of : ℕ → List ℕ
@@ -35,13 +36,13 @@ seed_of seed i = to_be_bytes w64 seed ++ to_be_bytes w64 i
 abbrev pub measurement : ℕ → ℕ → Line
 measurement seed i = Measure load_name (identifier_of i) (time_of i) (value_of seed i) (seed_of seed i)
 
--- the lines: the task, n measurements, and a collection of each batch
-abbrev pub load_lines : ℕ → ℕ → List Line
-load_lines n seed = load_task ∷ map (measurement seed) (range_with_len 0 n) ++ Collect load_name 0 ∷ Collect load_name 3600 ∷ []
+-- the collections of its two batches, of one bucket each
+abbrev pub collections : List Line
+collections = Collect load_name (one_bucket 0) ∷ Collect load_name (one_bucket 3600) ∷ []
 
--- a line and the line feed that ends it
-abbrev pub ended : Line → List ℕ
-ended line = spelling line ++ 10 ∷ []
+-- the lines: the task, n measurements, and the collections
+abbrev pub load_lines : ℕ → ℕ → List Line
+load_lines n seed = load_task ∷ map (measurement seed) (range_with_len 0 n) ++ collections
 
 -- the script: the lines, each with its end
 abbrev pub load_text : ℕ → ℕ → List ℕ

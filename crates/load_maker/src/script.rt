@@ -2,7 +2,8 @@
 
 ghost use Rattle.std.specs.Prelude.{◌≡◌, IfOk, string_bytes};
 ghost use Rattle.hex.specs.Hex.{encode_lower};
-ghost use Rattle.load_maker.specs.Load.{ended, identifier_of, load_text, measurement, seed_of, value_of};
+ghost use Rattle.dap_script.specs.Spelling.{ended};
+ghost use Rattle.load_maker.specs.Load.{identifier_of, load_text, measurement, seed_of, value_of};
 
 use std::alloc::{AllocError, Global};
 

@@ -106,13 +106,13 @@ fn named(rt: &impl Abort, name: &[u8]) -> Name {
 
 #[test]
 fn counts_are_reported_byte_by_byte(rt: HostRuntime) -> Result<(), Fail> {
-    let task = trial(named(&rt, b"v"), Kind::Count, 3, 3600);
+    let task = trial(named(&rt, b"v"), Kind::Count, 3, 3600, None);
     is_told(&rt, rt.alloc(), &task, 1, COUNT)
 }
 
 #[test]
 fn sums_are_reported_byte_by_byte(rt: HostRuntime) -> Result<(), Fail> {
-    let task = trial(named(&rt, b"s"), Kind::Sum { bits: 8 }, 3, 3600);
+    let task = trial(named(&rt, b"s"), Kind::Sum { bits: 8 }, 3, 3600, None);
     is_told(&rt, rt.alloc(), &task, 200, SUM)
 }
 
@@ -122,7 +122,7 @@ fn histograms_are_reported_byte_by_byte(rt: HostRuntime) -> Result<(), Fail> {
     let bounds = Bounds::new([10, 20, 30].to_vec(alloc)?);
     let kind = Kind::Histogram { bounds };
     assert!(rt; kind.is_valid());
-    let task = trial(named(&rt, b"h"), kind, 1, 3600);
+    let task = trial(named(&rt, b"h"), kind, 1, 3600, None);
     is_told(&rt, alloc, &task, 25, HISTOGRAM)
 }
 
@@ -198,7 +198,7 @@ fn report_in(alloc: Global, text: &str) -> Result<Report, Fail> {
 #[test]
 fn counts_are_said_in_turn(rt: HostRuntime) -> Result<(), Fail> {
     let alloc = rt.alloc();
-    let task = trial(named(&rt, b"v"), Kind::Count, 3, 3600);
+    let task = trial(named(&rt, b"v"), Kind::Count, 3, 3600, None);
     let step = "726dc438e7ef80cf42a490e74495a9cc098459593cce5b75ea47855ac41a790b";
     let want = Turns {
         step: Ok(step),
@@ -212,7 +212,7 @@ fn counts_are_said_in_turn(rt: HostRuntime) -> Result<(), Fail> {
 #[test]
 fn sums_are_said_in_turn(rt: HostRuntime) -> Result<(), Fail> {
     let alloc = rt.alloc();
-    let task = trial(named(&rt, b"s"), Kind::Sum { bits: 8 }, 3, 3600);
+    let task = trial(named(&rt, b"s"), Kind::Sum { bits: 8 }, 3, 3600, None);
     let want = Turns {
         step: Ok(
             "36450a5dc84736623bc3c52f2da0f9494a9a3d79191003a241714151626a98c6\
@@ -231,7 +231,7 @@ fn histograms_are_said_in_turn(rt: HostRuntime) -> Result<(), Fail> {
     let bounds = Bounds::new([10, 20, 30].to_vec(alloc)?);
     let kind = Kind::Histogram { bounds };
     assert!(rt; kind.is_valid());
-    let task = trial(named(&rt, b"h"), kind, 1, 3600);
+    let task = trial(named(&rt, b"h"), kind, 1, 3600, None);
     let want = Turns {
         step: Ok(
             "233e1df365b4912d99d320b7ece36bddce9a9e02bad575828d7698345c4cee43\
@@ -265,7 +265,7 @@ fn fail(
     step: Result<&'static str, Code>,
     code: Code,
 ) -> Result<(), Fail> {
-    let task = trial(named(rt, b"v"), Kind::Count, 3, 3600);
+    let task = trial(named(rt, b"v"), Kind::Count, 3, 3600, None);
     let leader = hex::decode(alloc, leader).map_err(|_| "hex digits")?;
     let helper = hex::decode(alloc, helper).map_err(|_| "hex digits")?;
     let report = Report {

@@ -1,6 +1,7 @@
 use Rattle.std.proofs.Common.{◌≡◌, ◌++◌, subst, arith}
 use Rattle.load_maker.proofs.TextLemmas.{text-first, text-more, text-whole}
-use Rattle.load_maker.specs.Load.{ended, load_text, measurement}
+use Rattle.dap_script.specs.Spelling.{ended}
+use Rattle.load_maker.specs.Load.{load_text, measurement}
 use Rattle.load_maker.proofs.script.load_script.Goals as goal
 
 pub loop-number-init : goal.loop-number-init
