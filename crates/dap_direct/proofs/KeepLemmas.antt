@@ -1,4 +1,4 @@
--- The sums of all batches, one report after another.
+-- The sums of all buckets, one report after another.
 use Rattle.std.proofs.Common.{◌≡◌, ◌⊎◌, ℕ, ◌+◌, ◌<◌, List, [], ◌∷◌, ◌++◌, length, get_or, set, Bool, cond, true, false, ◌&&◌, nat_eq, is_none, Option, Some, None, refl, sym, ap, subst, ◌∙◌, inl, inr, arith, append-nil}
 use Rattle.std.proofs.lemmas.Bool.{eq-eqb, eqb-true}
 use Rattle.std.proofs.lemmas.List.Folds.{find-append}
@@ -14,7 +14,7 @@ use Rattle.dap_tasks.specs.DistinctLaws.{bytes_eq-turned}
 use Rattle.dap_tasks.specs.Task.{PlainTask}
 use Rattle.dap_batch.specs.Group.{batch_start}
 use Rattle.dap_messages.specs.declared.report.Report.{Report}
-use Rattle.dap_model.specs.State.{content_of, contents_in, in_batch, rejected_in}
+use Rattle.dap_model.specs.State.{content_of, contents_in, in_bucket, rejected_in}
 use Rattle.dap_direct.proofs.ContentLemmas.{contents-push, rejected-push}
 use Rattle.dap_direct.proofs.FindLemmas.{FoundAt, find-set_other, found_at}
 use Rattle.dap_direct.proofs.SumLemmas.{barred_by, counts, is_own}
@@ -91,7 +91,7 @@ pub place_found : (g : Functions) (name : List ℕ) (start : ℕ) (old sums : Li
 place_found g name start old sums place x ready at =
     found_at (is_of name start) sums x (subst (λ n. n < length sums) (sym ready.at) ready.within) (at ∙ ap (λ n. get_or sums n x) (sym ready.at))
 
--- what stands at the place are the batch's sums
+-- what stands at the place are the bucket's sums
 pub place_sums : (f : Kind → Functions) (task : PlainTask) (acc : List Report) (start : ℕ) (old sums : List Sums) (place : ℕ) (x : Sums)
     → IsReady (f task.kind) task.name start old sums place → x ≡ get_or sums place x → IsSummed f task acc old
     → AreSums (f task.kind) (contents_in f task start acc) (rejected_in f task start acc) x
@@ -100,9 +100,9 @@ place_sums f task acc start old sums place x ready at summed =
     (place_found (f task.kind) task.name start old sums place x ready at).found
     (ready_keeps f (f task.kind) task.name start old sums place task acc ready (λ e. refl) summed start)
 
--- another batch has its sums as before
+-- another bucket has its sums as before
 untouched : (f : Kind → Functions) (t : PlainTask) (s : ℕ) (acc : List Report) (new : Report) (sums : List Sums) (place : ℕ) (x y : Sums)
-    → x ≡ get_or sums place x → in_batch t s new ≡ false → is_of t.name s x ≡ false → is_of t.name s y ≡ false
+    → x ≡ get_or sums place x → in_bucket t s new ≡ false → is_of t.name s x ≡ false → is_of t.name s y ≡ false
     → AreSumsOf (f t.kind) (contents_in f t s acc) (rejected_in f t s acc) (find (is_of t.name s) sums)
     → AreSumsOf (f t.kind) (contents_in f t s (acc ++ new ∷ [])) (rejected_in f t s (acc ++ new ∷ [])) (find (is_of t.name s) (set sums place y))
 untouched f t s acc new sums place x y at outside no_x no_y summed =
@@ -116,7 +116,7 @@ untouched f t s acc new sums place x y at outside no_x no_y summed =
     (subst (λ c. AreSumsOf (f t.kind) c (rejected_in f t s (acc ++ new ∷ [])) (find test sums)) (sym contents)
     (subst (λ (n : ℕ). AreSumsOf (f t.kind) (contents_in f t s acc) n (find test sums)) (sym rejected) summed))
 
--- the batch has its sums, with the report
+-- the bucket has its sums, with the report
 touched : (f : Kind → Functions) (task : PlainTask) (acc : List Report) (new : Report) (outs : Option OutShares) (old sums : List Sums) (place : ℕ) (x y : Sums)
     → SpaceLaws (f task.kind).space → Counted f task new outs old sums place x y → IsSummed f task acc old
     → let start = batch_start new.time task.precision in
@@ -129,7 +129,7 @@ touched f task acc new outs old sums place x y laws c summed =
     let there : find (is_of task.name start) (set sums place y) ≡ Some y =
     ap (λ n. find (is_of task.name start) (set sums n y)) (sym c.ready.at) ∙ found.replaced y (is_own task.name start y key.task key.begin) in
     let named : bytes_eq new.name task.name ≡ true = (bytes_eq-Decides new.name task.name).1 c.of_task in
-    let inside : in_batch task start new ≡ true = ap (λ b. b && nat_eq start start) named ∙ eq-eqb start start refl in
+    let inside : in_bucket task start new ≡ true = ap (λ b. b && nat_eq start start) named ∙ eq-eqb start start refl in
     let contents : contents_in f task start (acc ++ new ∷ []) ≡ contents_in f task start acc ++ option_to_list (content_with g outs) =
     contents-push f task start acc new ∙ ap (λ b. contents_in f task start acc ++ cond b (option_to_list (content_of f task new)) []) inside
     ∙ ap (λ o. contents_in f task start acc ++ option_to_list o) (sym c.content) in

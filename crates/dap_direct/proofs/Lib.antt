@@ -1,5 +1,6 @@
 pub mod ReportLemmas
 pub mod SumLemmas
+pub mod EarliestLemmas
 pub mod FindLemmas
 pub mod ContentLemmas
 pub mod KeepLemmas
@@ -7,5 +8,6 @@ pub mod DirectLemmas
 pub mod TaskLemmas
 pub mod SummedLemmas
 pub mod HonestLemmas
+pub mod CollectLemmas
 pub mod StepLemmas
 pub mod RunLemmas

@@ -1,23 +1,25 @@
 -- What a line does, by what it offers.
-use Rattle.std.proofs.Common.{◌≡◌, ℕ, ◌+◌, ◌≤◌, List, length, Option, Some, sym, ap, subst, ◌∙◌, arith}
+use Rattle.std.proofs.Common.{◌≡◌, ℕ, ◌+◌, ◌≤◌, List, length, Some, sym, ap, subst, ◌∙◌, arith}
 use Rattle.std.specs.Prelude.{IsTrue}
 use Rattle.std.specs.List.{find}
-use Rattle.std.specs.Option.{option_and_then, option_map_or, option_to_list}
+use Rattle.std.specs.Option.{option_and_then, option_map_or}
+use Rattle.dap_bytes.specs.declared.span.Span.{Span}
 use Rattle.vdaf_api.specs.Functions.{Functions}
 use Rattle.vdaf_api.specs.declared.kind.Kind.{Kind}
 use Rattle.dap_messages.specs.MessageLaws.{report_lawful}
 use Rattle.dap_messages.specs.Messages.{report}
 use Rattle.dap_messages.specs.declared.report.Report.{Report}
+use Rattle.dap_messages.specs.declared.report.TheConstants.{MOST_REPORT}
 use Rattle.dap_seal.specs.Reports.{honest_report}
 use Rattle.dap_tasks.specs.Task.{PlainTask, has_name}
 use Rattle.dap_tasks.specs.declared.cause.Cause.TheVariants as cause
 use Rattle.dap_script.specs.declared.line.Line.TheVariants as line
 use Rattle.dap_model.specs.Limits.{report_offered}
 use Rattle.dap_model.specs.State.{State}
-use Rattle.dap_model.specs.Step.{Outcome, measure_of, name_in, offered, refused, report_in, step, upload_named, upload_to}
+use Rattle.dap_model.specs.Step.{collect_of, measure_of, name_in, offered, refused, report_in, step, upload_named, upload_to}
 use Rattle.dap_model.specs.declared.printed.Printed.{Printed}
-use Rattle.dap_direct.proofs.SummedLemmas.{found_own, keeps_all, same_sums}
-use Rattle.dap_direct.specs.Direct.{IsAt, IsReadied, MayRun, Runs, state_of}
+use Rattle.dap_direct.proofs.SummedLemmas.{same_sums}
+use Rattle.dap_direct.specs.Direct.{Collects, IsAt, MayRun, Runs, state_of}
 use Rattle.dap_direct.specs.Offered.{with_report}
 use Rattle.dap_direct.specs.declared.offered.Offered.{Offered}
 use Rattle.dap_direct.specs.declared.state.Direct.{Direct}
@@ -57,7 +59,7 @@ upload-offers f tasks bytes name task named known =
 -- ---- how many reports there are
 
 -- one more report of so many bytes
-pub at_next : (k : ℕ) (old new : Direct) (o : Offered) (n : ℕ) → IsAt k old → n ≤ 195143
+pub at_next : (k : ℕ) (old new : Direct) (o : Offered) (n : ℕ) → IsAt k old → n ≤ MOST_REPORT
     → o ≡ record { reports = old.offered.reports + 1; bytes = old.offered.bytes + n }
     → length new.accepted ≤ length old.accepted + 1 → new.offered ≡ o → IsAt (k + 1) new
 at_next k old new o n at few is accepted same =
@@ -70,30 +72,26 @@ at_next k old new o n at few is accepted same =
     }
 
 -- no report has more bytes
-pub few_bytes : (r : Report) (bytes : List ℕ) → IsTrue (report.allowed r) → bytes ≡ report.spell r → length bytes ≤ 195143
-few_bytes r bytes allowed is = subst (λ (l : List ℕ). length l ≤ 195143) (sym is) (report_lawful.within r allowed)
+pub few_bytes : (r : Report) (bytes : List ℕ) → IsTrue (report.allowed r) → bytes ≡ report.spell r → length bytes ≤ MOST_REPORT
+few_bytes r bytes allowed is = subst (λ (l : List ℕ). length l ≤ MOST_REPORT) (sym is) (report_lawful.within r allowed)
 
 -- the report is counted by its bytes
 pub counted_upload : (o : Offered) (bytes : List ℕ) (r : Report) → bytes ≡ report.spell r
     → (let one : Offered = record { reports = o.reports + 1; bytes = o.bytes + length bytes } in one) ≡ with_report (Some r) o
 counted_upload o bytes r is = ap (λ (l : List ℕ). let one : Offered = record { reports = o.reports + 1; bytes = o.bytes + length l } in one) is
 
--- a collection, after which the batch has its sums, with the same reports
-pub collects : (f : Kind → Functions) (tasks : List PlainTask) (k : ℕ) (name : List ℕ) (start place : ℕ) (task : PlainTask) (old ready new : Direct) (printed : Option Printed)
-    → find (has_name name) tasks ≡ Some task → MayRun f tasks k old → IsReadied f task start old ready place
-    → new.accepted ≡ ready.accepted → new.sums ≡ ready.sums → new.offered ≡ ready.offered
-    → (let o : Outcome = (state_of tasks new, option_to_list printed) in o) ≡ step f (state_of tasks old) k (line.Collect name start)
-    → Runs f tasks k (line.Collect name start) old new printed
-collects f tasks k name start place task old ready new printed found may is accepted sums offered outcome =
-    let same : new.accepted ≡ old.accepted = accepted ∙ is.accepted in
-    let counted : new.offered ≡ old.offered = offered ∙ is.offered in
+-- a collection leaves the reports and their sums
+pub collects : (f : Kind → Functions) (tasks : List PlainTask) (k : ℕ) (name : List ℕ) (span : Span) (task : PlainTask) (old new : Direct) (printed : Printed)
+    → find (has_name name) tasks ≡ Some task → MayRun f tasks k old → Collects f task k span old new printed
+    → Runs f tasks k (line.Collect name span) old new (Some printed)
+collects f tasks k name span task old new printed found may is =
     record {
-      outcome = outcome;
+      outcome = is.outcome tasks ∙ sym (ap (λ o. option_map_or (collect_of f (state_of tasks old) k span) o (refused (state_of tasks old) k cause.Task)) found);
       at = record {
-        accepted = omega (arith, may.at.accepted, ap length same);
-        offered = omega (arith, may.at.offered, ap (λ (o : Offered). o.reports) counted);
-        bytes = omega (arith, may.at.bytes, ap (λ (o : Offered). o.bytes) counted);
+        accepted = omega (arith, may.at.accepted, ap length is.accepted);
+        offered = omega (arith, may.at.offered, ap (λ (o : Offered). o.reports) is.offered);
+        bytes = omega (arith, may.at.bytes, ap (λ (o : Offered). o.bytes) is.offered);
       };
-      sums = same_sums f tasks ready new accepted sums (keeps_all f tasks task old ready (found_own name tasks task found) may.sums is.kept);
-      counted = counted;
+      sums = same_sums f tasks old new is.accepted is.sums may.sums;
+      counted = is.offered;
     }

@@ -11,11 +11,11 @@ use Rattle.field_laws.specs.Vector.{add_each, sum_of}
 use Rattle.vdaf_api.proofs.Totals.{plus-swap, totals_are}
 use Rattle.vdaf_api.specs.Functions.{Functions}
 use Rattle.vdaf_api.specs.VectorLaws.{vector_of-back}
-use Rattle.vdaf_api.specs.SumLaws.{add_each-assoc, add_each-comm, length-zeros, vector-plus, vector-zero}
+use Rattle.vdaf_api.specs.SumLaws.{add_each-assoc, add_each-comm, add_each-zero, below-add_each, length-zeros, vector-plus, vector-zero}
 use Rattle.vdaf_api.specs.Totals.{total_numbers}
-use Rattle.vdaf_api.specs.Vectors.{IsOut, SpaceLaws, numbers, numbers_in, plus, vector, zero_share}
+use Rattle.vdaf_api.specs.Vectors.{IsOut, SpaceLaws, numbers, numbers_in, plus, vector, zero_share, Below}
 use Rattle.vdaf_api.specs.declared.space.Space.{Space}
-use Rattle.dap_direct.specs.Sums.{AreOutShares, AreSums, Counts, IsReady, content_with, is_of}
+use Rattle.dap_direct.specs.Sums.{AreOutShares, AreSums, Counts, IsReady, content_with, is_of, AddsSums, AreSumsOf}
 use Rattle.dap_direct.specs.declared.prepared.OutShares.{OutShares}
 use Rattle.dap_direct.specs.declared.sums.Sums.{Sums}
 
@@ -74,20 +74,54 @@ sum_of-push : (p n : ℕ) (vs : List (List ℕ)) (v : List ℕ) → 1 ≤ p → 
 sum_of-push p n [] v some size = add_each-comm p (replicate n 0) v (length-zeros n ∙ sym size)
 sum_of-push p n (w ∷ vs) v some size = add_each-assoc p w (sum_of p n vs) v some ∙ ap (add_each p w) (sum_of-push p n vs v some size)
 
--- out shares of one more report, added to the sums
-pub sum_more : {s : Space} → SpaceLaws s → (contents : List (List ℕ)) (leader helper lo ho : List ℕ)
-    → IsOut s leader → IsOut s helper → IsOut s lo → IsOut s ho → numbers s (plus s leader helper) ≡ total_numbers s contents
-    → numbers s (plus s (plus s leader lo) (plus s helper ho)) ≡ total_numbers s (contents ++ numbers s (plus s lo ho) ∷ [])
-sum_more {s} laws contents leader helper lo ho il ih io iq total =
-    let olds : vector s (plus s leader helper) ≡ Some (add_each s.modulus il.0 ih.0) = vector-plus laws leader helper il.0 ih.0 il.1 ih.1 in
-    let news : vector s (plus s lo ho) ≡ Some (add_each s.modulus io.0 iq.0) = vector-plus laws lo ho io.0 iq.0 io.1 iq.1 in
-    let both : vector s (plus s (plus s leader helper) (plus s lo ho)) ≡ Some (add_each s.modulus (add_each s.modulus il.0 ih.0) (add_each s.modulus io.0 iq.0)) =
-    vector-plus laws (plus s leader helper) (plus s lo ho) _ _ olds news in
-    let size : length (add_each s.modulus io.0 iq.0) ≡ s.size = (vector_of-back s.modulus s.width s.size (plus s lo ho) (add_each s.modulus io.0 iq.0) news).size in
-    ap (numbers s) (plus-swap laws leader lo helper ho) ∙ ap numbers_in both
-    ∙ ap (λ v. add_each s.modulus v (add_each s.modulus io.0 iq.0)) (sym (ap numbers_in olds) ∙ total)
-    ∙ sum_of-push s.modulus s.size contents (add_each s.modulus io.0 iq.0) laws.some_number size
-    ∙ ap (λ v. total_numbers s (contents ++ v ∷ [])) (sym (ap numbers_in news))
+-- the sums of vectors and of more vectors
+sum_of-append : (p n : ℕ) (vs more : List (List ℕ)) (v : List ℕ) → 1 ≤ p → length v ≡ n → Below p v → v ≡ sum_of p n more → add_each p (sum_of p n vs) v ≡ sum_of p n (vs ++ more)
+sum_of-append p n [] more v some size below is =
+    ap (λ (k : ℕ). add_each p (replicate k 0) v) (sym size) ∙ add_each-zero p v below ∙ is
+sum_of-append p n (w ∷ vs) more v some size below is = add_each-assoc p w (sum_of p n vs) v some ∙ ap (add_each p w) (sum_of-append p n vs more v some size below is)
+
+-- the numbers of two out shares
+pub record AreNumbers (s : Space) (leader helper v : List ℕ) : Type 0 where
+  pub is : numbers s (plus s leader helper) ≡ v
+  pub size : length v ≡ s.size
+  pub below : Below s.modulus v
+
+-- out shares that are added to sums, as numbers
+module _ {s : Space} (laws : SpaceLaws s) (leader helper lo ho : List ℕ) (il : IsOut s leader) (ih : IsOut s helper) (io : IsOut s lo) (iq : IsOut s ho) where
+  abbrev pub added : List ℕ
+  added = add_each s.modulus io.0 iq.0
+
+  news : vector s (plus s lo ho) ≡ Some added
+  news = vector-plus laws lo ho io.0 iq.0 io.1 iq.1
+
+  pub are_numbers : AreNumbers s lo ho added
+  are_numbers = record {
+    is = ap numbers_in news;
+    size = (vector_of-back s.modulus s.width s.size (plus s lo ho) added news).size;
+    below = below-add_each s.modulus io.0 iq.0 laws.some_number;
+  }
+
+  sum_both : numbers s (plus s (plus s leader lo) (plus s helper ho)) ≡ add_each s.modulus (numbers s (plus s leader helper)) added
+  sum_both =
+      let olds : vector s (plus s leader helper) ≡ Some (add_each s.modulus il.0 ih.0) = vector-plus laws leader helper il.0 ih.0 il.1 ih.1 in
+      let both : vector s (plus s (plus s leader helper) (plus s lo ho)) ≡ Some (add_each s.modulus (add_each s.modulus il.0 ih.0) added) =
+      vector-plus laws (plus s leader helper) (plus s lo ho) _ _ olds news in
+      ap (numbers s) (plus-swap laws leader lo helper ho) ∙ ap numbers_in both ∙ ap (λ v. add_each s.modulus v added) (sym (ap numbers_in olds))
+
+  -- out shares of one more report
+  pub sum_more : (contents : List (List ℕ)) → numbers s (plus s leader helper) ≡ total_numbers s contents
+      → numbers s (plus s (plus s leader lo) (plus s helper ho)) ≡ total_numbers s (contents ++ numbers s (plus s lo ho) ∷ [])
+  sum_more contents total =
+      sum_both ∙ ap (λ v. add_each s.modulus v added) total
+      ∙ sum_of-push s.modulus s.size contents added laws.some_number are_numbers.size
+      ∙ ap (λ v. total_numbers s (contents ++ v ∷ [])) (sym are_numbers.is)
+
+  -- the sums of more reports
+  pub sum_join : (contents more : List (List ℕ)) → numbers s (plus s leader helper) ≡ total_numbers s contents → numbers s (plus s lo ho) ≡ total_numbers s more
+      → numbers s (plus s (plus s leader lo) (plus s helper ho)) ≡ total_numbers s (contents ++ more)
+  sum_join contents more total others =
+      sum_both ∙ ap (λ v. add_each s.modulus v added) total
+      ∙ sum_of-append s.modulus s.size contents more added laws.some_number are_numbers.size are_numbers.below (sym are_numbers.is ∙ others)
 
 plus-out_of : {s : Space} → SpaceLaws s → (a b : List ℕ) → IsOut s a → IsOut s b → IsOut s (plus s a b)
 plus-out_of {s} laws a b ia ib = (add_each s.modulus ia.0 ib.0, vector-plus laws a b ia.0 ib.0 ia.1 ib.1)
@@ -114,7 +148,33 @@ counts {g} laws contents rejected (Some outs) old new sums ok count =
       helper = subst (IsOut g.space) (sym count.helper) (plus-out_of laws old.helper.items outs.helper.items sums.helper ok.1);
       sum = ap (λ l. numbers g.space (plus g.space l new.helper.items)) count.leader
           ∙ ap (λ h. numbers g.space (plus g.space (plus g.space old.leader.items outs.leader.items) h)) count.helper
-          ∙ sum_more laws contents old.leader.items old.helper.items outs.leader.items outs.helper.items sums.leader sums.helper ok.0 ok.1 sums.sum;
+          ∙ sum_more laws old.leader.items old.helper.items outs.leader.items outs.helper.items sums.leader sums.helper ok.0 ok.1 contents sums.sum;
       counted = omega (arith, count.reports, sums.counted, length-append contents (numbers g.space (plus g.space outs.leader.items outs.helper.items) ∷ []));
       barred = omega (arith, count.rejected, sums.barred);
     }
+
+-- ---- the sums of more reports
+
+pub joins : {g : Functions} → SpaceLaws g.space → (contents more : List (List ℕ)) (rejected barred : ℕ) (other old new : Sums)
+    → AreSums g contents rejected old → AreSums g more barred other → AddsSums g other old new → AreSums g (contents ++ more) (rejected + barred) new
+joins {g} laws contents more rejected barred other old new sums others adds =
+    record {
+      leader = subst (IsOut g.space) (sym adds.leader) (plus-out_of laws old.leader.items other.leader.items sums.leader others.leader);
+      helper = subst (IsOut g.space) (sym adds.helper) (plus-out_of laws old.helper.items other.helper.items sums.helper others.helper);
+      sum = ap (λ l. numbers g.space (plus g.space l new.helper.items)) adds.leader
+          ∙ ap (λ h. numbers g.space (plus g.space (plus g.space old.leader.items other.leader.items) h)) adds.helper
+          ∙ sum_join laws old.leader.items old.helper.items other.leader.items other.helper.items sums.leader sums.helper others.leader others.helper contents more sums.sum others.sum;
+      counted = omega (arith, adds.reports, sums.counted, others.counted, length-append contents more);
+      barred = omega (arith, adds.rejected, sums.barred, others.barred);
+    }
+
+-- the sums of no report are joined
+pub joins_none : {g : Functions} (contents more : List (List ℕ)) (rejected barred : ℕ) (total : Sums)
+    → AreSumsOf g more barred None → AreSums g contents rejected total → AreSums g (contents ++ more) (rejected + barred) total
+joins_none {g} contents more rejected barred total none sums = record {
+  leader = sums.leader;
+  helper = sums.helper;
+  sum = sums.sum ∙ ap (total_numbers g.space) (sym (ap (λ l. contents ++ l) none.0 ∙ append-nil contents));
+  counted = sums.counted ∙ ap length (sym (ap (λ l. contents ++ l) none.0 ∙ append-nil contents));
+  barred = omega (arith, sums.barred, none.1);
+}

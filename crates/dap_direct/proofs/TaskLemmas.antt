@@ -31,11 +31,11 @@ tasks_differ (task ∷ more) d =
 names_of-tasks_of : (lines : List Line) → names_of (tasks_of lines) ≡ task_names lines
 names_of-tasks_of [] = refl
 names_of-tasks_of (line.Blank ∷ more) = names_of-tasks_of more
-names_of-tasks_of (line.Task name kind min precision ∷ more) = ap (λ l. name ∷ l) (names_of-tasks_of more)
+names_of-tasks_of (line.Task name kind min precision expires ∷ more) = ap (λ l. name ∷ l) (names_of-tasks_of more)
 names_of-tasks_of (line.Now t ∷ more) = names_of-tasks_of more
 names_of-tasks_of (line.Measure task id time value seed ∷ more) = names_of-tasks_of more
 names_of-tasks_of (line.Upload report ∷ more) = names_of-tasks_of more
-names_of-tasks_of (line.Collect task start ∷ more) = names_of-tasks_of more
+names_of-tasks_of (line.Collect task span ∷ more) = names_of-tasks_of more
 names_of-tasks_of (line.Restart node ∷ more) = names_of-tasks_of more
 
 -- the given tasks and those of a script, where no name stands twice among theirs

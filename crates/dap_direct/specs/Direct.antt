@@ -1,30 +1,22 @@
 -- What the direct path keeps, as the plain state.
-use Rattle.std.specs.Prelude.{◌≡◌, ℕ, ◌+◌, ◌*◌, ◌^◌, ◌<◌, ◌≤◌, List, length, get_or, ◌++◌, ◌∷◌, [], map, Option, Some, false}
+use Rattle.std.specs.Prelude.{◌≡◌, ℕ, ◌+◌, ◌*◌, ◌^◌, ◌<◌, ◌≤◌, List, length, ◌++◌, ◌∷◌, [], Option, Some, false}
 use Rattle.std.specs.List.{find}
 use Rattle.std.specs.Option.{option_to_list}
 use Rattle.std.specs.Str.{bytes_eq}
+use Rattle.dap_bytes.specs.declared.span.Span.{Span}
 use Rattle.vdaf_api.specs.Functions.{Functions}
 use Rattle.vdaf_api.specs.declared.kind.Kind.{Kind}
 use Rattle.dap_messages.specs.declared.report.Report.{Report}
+use Rattle.dap_messages.specs.declared.report.TheConstants.{MOST_REPORT}
 use Rattle.dap_tasks.specs.Task.{PlainTask, has_name}
 use Rattle.dap_script.specs.declared.line.Line.{Line}
 use Rattle.dap_model.specs.Limits.{report_offered}
-use Rattle.dap_model.specs.State.{Batch as PlainBatch, State, contents_in, rejected_in}
-use Rattle.dap_model.specs.Step.{Outcome, offered, report_in, step, upload_to}
+use Rattle.dap_model.specs.State.{State}
+use Rattle.dap_model.specs.Step.{Outcome, collect_of, offered, report_in, step, upload_to}
 use Rattle.dap_model.specs.declared.printed.Printed.{Printed}
 use Rattle.dap_direct.specs.Offered.{with_report}
-use Rattle.dap_direct.specs.Sums.{AreSums, IsSummed}
-use Rattle.dap_direct.specs.declared.state.Batch.{Batch}
+use Rattle.dap_direct.specs.Sums.{IsSummed}
 use Rattle.dap_direct.specs.declared.state.Direct.{Direct}
-use Rattle.dap_direct.specs.declared.sums.Sums.{Sums}
-
--- a batch by its task and start
-abbrev pub plain_batch : Batch → PlainBatch
-plain_batch b = record { task = b.task; start = b.start }
-
--- batches so, in order
-abbrev pub plain_batches : List Batch → List PlainBatch
-plain_batches batches = map plain_batch batches
 
 -- the plain state, under the known tasks
 abbrev pub state_of : List PlainTask → Direct → State
@@ -32,47 +24,36 @@ state_of tasks d = record {
   tasks = tasks;
   moment = d.moment;
   accepted = d.accepted;
-  collected = plain_batches d.collected.items;
+  collected = d.collected.items;
 }
 
 -- Before line k no more reports were accepted, and no more were offered, than lines are behind; and none of them has more
--- than 195,143 bytes.
+-- bytes than a report may have.
 pub record IsAt (k : ℕ) (d : Direct) : Type 0 where
   pub accepted : length d.accepted < k
   pub offered : d.offered.reports < k
-  pub bytes : d.offered.bytes + 195143 ≤ 195143 * k
+  pub bytes : d.offered.bytes + MOST_REPORT ≤ MOST_REPORT * k
 
--- each batch of the task has its sums
+-- each bucket of the task has its sums
 abbrev pub HasSums : (Kind → Functions) → PlainTask → Direct → Type 0
 HasSums f task d = IsSummed f task d.accepted d.sums.items
 
--- each batch of each known task has its sums
+-- each bucket of each known task has its sums
 abbrev pub AreSummed : (Kind → Functions) → List PlainTask → Direct → Type 0
 AreSummed f tasks d = (task : PlainTask) → find (has_name task.name) tasks ≡ Some task → HasSums f task d
 
--- the task's batches have their sums, and those of other names have them as before
+-- the task's buckets have their sums, and those of other names have them as before
 pub record KeepsSums (f : Kind → Functions) (task : PlainTask) (old new : Direct) : Type 0 where
   pub own : HasSums f task new
   pub others : (other : PlainTask) → bytes_eq other.name task.name ≡ false → HasSums f other old → HasSums f other new
 
--- the report stands behind the accepted ones, with the sums of its batch, and nothing else changes
+-- the report stands behind the accepted ones, with the sums of its bucket, and nothing else changes
 pub record AddsReport (f : Kind → Functions) (task : PlainTask) (report : Report) (old new : Direct) : Type 0 where
   pub accepted : new.accepted ≡ old.accepted ++ report ∷ []
   pub moment : new.moment ≡ old.moment
   pub collected : new.collected ≡ old.collected
   pub offered : new.offered ≡ old.offered
   pub sums : KeepsSums f task old new
-
--- The sums of the task's batch stand at this place, and nothing else changes.
-pub record IsReadied (f : Kind → Functions) (task : PlainTask) (start : ℕ) (old new : Direct) (place : ℕ) : Type 0 where
-  pub within : place < length new.sums.items
-  pub sums : (x : Sums) → x ≡ get_or new.sums.items place x
-      → AreSums (f task.kind) (contents_in f task start old.accepted) (rejected_in f task start old.accepted) x
-  pub accepted : new.accepted ≡ old.accepted
-  pub moment : new.moment ≡ old.moment
-  pub collected : new.collected ≡ old.collected
-  pub offered : new.offered ≡ old.offered
-  pub kept : KeepsSums f task old new
 
 -- ---- reports that are offered
 
@@ -90,6 +71,16 @@ pub record Uploads (f : Kind → Functions) (task : PlainTask) (k : ℕ) (bytes 
   pub at : IsAt (k + 1) new
   pub counted : new.offered ≡ with_report (report_in bytes) old.offered
 
+-- ---- collections
+
+-- The task's batch is collected by line k: the plain state changes and something is printed as by the plain step, and the
+-- reports and their sums stay.
+pub record Collects (f : Kind → Functions) (task : PlainTask) (k : ℕ) (span : Span) (old new : Direct) (printed : Printed) : Type 0 where
+  pub outcome : (tasks : List PlainTask) → (let o : Outcome = (state_of tasks new, printed ∷ []) in o) ≡ collect_of f (state_of tasks old) k span task
+  pub accepted : new.accepted ≡ old.accepted
+  pub sums : new.sums ≡ old.sums
+  pub offered : new.offered ≡ old.offered
+
 -- ---- lines
 
 -- line k may be run
@@ -98,7 +89,7 @@ pub record MayRun (f : Kind → Functions) (tasks : List PlainTask) (k : ℕ) (d
   pub at : IsAt k d
   pub sums : AreSummed f tasks d
 
--- Line k was run: the plain state changed and something is printed as by the plain step, each batch has its sums, and the
+-- Line k was run: the plain state changed and something is printed as by the plain step, each bucket has its sums, and the
 -- report that the line offers, if it offers one, is counted.
 pub record Runs (f : Kind → Functions) (tasks : List PlainTask) (k : ℕ) (l : Line) (old new : Direct) (printed : Option Printed) : Type 0 where
   pub outcome : (let o : Outcome = (state_of tasks new, option_to_list printed) in o) ≡ step f (state_of tasks old) k l

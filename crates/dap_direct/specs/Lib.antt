@@ -1,6 +1,7 @@
 pub mod Alike
 pub mod Answered
 pub mod Direct
+pub mod Earlier
 pub mod Honest
 pub mod Offered
 pub mod Sums

@@ -25,7 +25,8 @@ fn task_in(line: &Line) -> Result<Option<Task>, AllocError>
             kind,
             min,
             precision,
-        } => Ok(Some(trial(*name, kind.clone()?, *min, *precision))),
+            expires,
+        } => Ok(Some(trial(*name, kind.clone()?, *min, *precision, *expires))),
         _ => Ok(None),
     }
 }

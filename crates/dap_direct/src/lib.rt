@@ -4,6 +4,7 @@
 #![tactic(auto)]
 
 mod accepted;
+mod batch;
 mod collect;
 mod fault;
 mod judge;

@@ -13,7 +13,7 @@ use crate::prepared::prepare;
 use crate::state::Direct;
 use crate::sums::Sums;
 use dap_batch::batch_of;
-use dap_bytes::{Id, Name};
+use dap_bytes::{Id, LATEST_TIME, Name};
 use dap_messages::{ReadFault, Report, read_report};
 use dap_model::Printed;
 use dap_seal::make_report;
@@ -84,7 +84,7 @@ pub fn honest_bytes<V: Vdaf>(
     vdaf: &V,
     given: &Measurement,
 ) -> Result<Option<Vec<u8>>, AllocError>
-    requires time { given.now.time ≤ 999999999999999999 }
+    requires time { given.now.time ≤ LATEST_TIME }
     requires name { IsName task.now.name }
     ensures { IfOk result (Spell task.now.name (honest_report (V.functions vdaf.now) task.now given.now.id given.now.time given.now.value given.now.seed)) }
 {
@@ -105,7 +105,7 @@ pub fn honest_bytes<V: Vdaf>(
 impl Direct {
     ghost use Rattle.dap_direct.specs.Direct.{AddsReport, HasSums, IsAt, Offers, Uploads};
 
-    /// Accepts a report of the task, and adds its out shares to the sums of its batch.
+    /// Accepts a report of the task, and adds its out shares to the sums of its bucket.
     fn add<V: Vdaf>(
         &mut self,
         alloc: Global,
@@ -145,7 +145,7 @@ impl Direct {
         requires sums { HasSums V.of_kind task.now self.old }
         ensures { IfOk result (Offers V.of_kind task.now line new self.old self.new) }
     {
-        match self.judge(task.precision, &new) {
+        match self.judge(task, &new) {
             Judged::Again => Ok(None),
             Judged::Barred(cause) => Ok(refused(line, cause)),
             Judged::Added => {

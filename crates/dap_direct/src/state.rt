@@ -1,28 +1,20 @@
 //! The state of a run on the direct path.
 
-ghost use Rattle.std.specs.Prelude.{◌≡◌, List, [], ◌||◌, IfOk, if◌then◌else◌};
-ghost use Rattle.std.specs.List.{list_any};
+ghost use Rattle.std.specs.Prelude.{◌≡◌, List, []};
 ghost use Rattle.vdaf_api.specs.Functions.{Functions};
 ghost use Rattle.vdaf_api.specs.declared.kind.Kind.{Kind as PlainKind};
 ghost use Rattle.dap_tasks.specs.Task.{PlainTask};
-ghost use Rattle.dap_model.specs.State.{is_batch, is_collected, opening};
-ghost use Rattle.dap_model.specs.Step.{raised, with_batch};
+ghost use Rattle.dap_model.specs.State.{opening};
+ghost use Rattle.dap_model.specs.Step.{raised};
 ghost use Rattle.dap_direct.specs.Offered.{AreOffered};
 
 use crate::accepted::Accepted;
+use crate::batch::Batch;
 use crate::offered::Offered;
 use crate::sums::Sums;
-use dap_bytes::Name;
-use std::alloc::{AllocError, Global};
+use std::alloc::Global;
 
-/// A batch that was collected.
-#[derive(Debug, Drop)]
-pub struct Batch {
-    pub task: Name,
-    pub start: u64,
-}
-
-/// The state of a run: the moment, the accepted reports, the sums of batches, and the collected batches; and the numbers
+/// The state of a run: the moment, the accepted reports, the sums of their buckets, and the collected batches; and the numbers
 /// of the reports that were offered.
 #[derive(Debug, Drop)]
 pub struct Direct {
@@ -33,25 +25,8 @@ pub struct Direct {
     pub offered: Offered,
 }
 
-impl Batch {
-    ghost use Rattle.dap_direct.specs.Direct.{plain_batch};
-
-    fn is(&self, task: &Name, start: u64) -> bool
-        ensures { result ≡ is_batch task.now start (plain_batch self.now) }
-    {
-        self.task == *task && self.start == start
-    }
-
-    /// Whether the task's batch that starts there is among these. It takes no memory.
-    pub fn any(collected: &[Batch], task: &Name, start: u64) -> bool
-        ensures { result ≡ list_any (λ b. is_batch task.now start (plain_batch b)) collected.now }
-    {
-        collected.iter().any(|batch| batch.is(task, start))
-    }
-}
-
 impl Direct {
-    ghost use Rattle.dap_direct.specs.Direct.{AreSummed, IsAt, plain_batches, state_of};
+    ghost use Rattle.dap_direct.specs.Direct.{AreSummed, IsAt, state_of};
 
     /// The state before a script. It takes no memory.
     pub fn new(alloc: Global) -> Direct
@@ -81,25 +56,5 @@ impl Direct {
             Some(moment) => t.max(moment),
             None => t,
         });
-    }
-
-    /// Collects the task's batch that starts there, if it was collected before or has enough reports. Whether it did.
-    #[tactic(auto, using(crate::proofs::DirectLemmas::seen_as))]
-    pub fn close(&mut self, task: Name, start: u64, enough: bool) -> Result<bool, AllocError>
-        ensures due { IfOk result (λ due. due ≡ (is_collected (plain_batches self.old.collected.items) task start || enough)) }
-        ensures collected { IfOk result (λ due. plain_batches self.new.collected.items
-            ≡ (if due then with_batch (plain_batches self.old.collected.items) task start else plain_batches self.old.collected.items)) }
-        ensures moment { self.new.moment ≡ self.old.moment }
-        ensures accepted { self.new.accepted ≡ self.old.accepted }
-        ensures sums { self.new.sums ≡ self.old.sums }
-        ensures offered { self.new.offered ≡ self.old.offered }
-    {
-        if Batch::any(&self.collected, &task, start) {
-            return Ok(true);
-        }
-        if enough {
-            self.collected.push(Batch { task, start })?;
-        }
-        Ok(enough)
     }
 }

@@ -7,7 +7,7 @@ ghost use Rattle.dap_script.specs.declared.line.Line.TheVariants.{Measure, Uploa
 
 use crate::offer::{Measurement, honest_bytes, name_in, refused};
 use crate::state::Direct;
-use dap_bytes::Name;
+use dap_bytes::{LATEST_TIME, Name};
 use dap_model::Printed;
 use dap_script::Line;
 use dap_tasks::{Cause, Tasks};
@@ -26,7 +26,7 @@ impl Direct {
         name: &Name,
         given: &Measurement,
     ) -> Result<Option<Printed>, AllocError>
-        requires time { given.now.time ≤ 999999999999999999 }
+        requires time { given.now.time ≤ LATEST_TIME }
         requires name { IsName name.now }
         requires may_run { MayRun V.of_kind tasks.now line self.old }
         ensures { IfOk result (Runs V.of_kind tasks.now line (Measure name.now given.now.id given.now.time given.now.value given.now.seed) self.old self.new) }
@@ -93,7 +93,7 @@ impl Direct {
                 self.measure(alloc, tasks, line, name, &given)
             }
             Line::Upload { report } => self.upload(alloc, tasks, line, report.as_slice()),
-            Line::Collect { name, start } => self.collect(alloc, tasks, line, name, *start),
+            Line::Collect { name, span } => self.collect(alloc, tasks, line, name, *span),
             Line::Blank => Ok(None),
             Line::Task { .. } => Ok(None),
             Line::Restart { .. } => Ok(None),

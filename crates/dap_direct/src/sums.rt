@@ -1,16 +1,18 @@
-//! The sums of a batch.
+//! The sums of buckets and of batches.
 
 ghost use Rattle.std.specs.Prelude.{◌≡◌, ◌+◌, ◌^◌, ◌<◌, [], IfOk};
-ghost use Rattle.std.specs.List.{position_or_len};
+ghost use Rattle.std.specs.List.{find, position_or_len};
+ghost use Rattle.std.specs.Option.{option_map};
 ghost use Rattle.vdaf_api.specs.Vectors.{IsOut, plus};
 
 use crate::prepared::OutShares;
-use dap_bytes::Name;
+use dap_bytes::{Name, Span};
+use dap_model::Printed;
 use std::alloc::{AllocError, Global};
 use vdaf_api::{Collected, Vdaf};
 
-/// The sums of a batch: those of its reports' out shares at the leader and at the helper, and how many reports are in
-/// them and how many were rejected.
+/// The sums of a bucket: those of its reports' out shares at the leader and at the helper, and how many reports are in them
+/// and how many were rejected; or those of a batch that starts there, which are its buckets' together.
 #[derive(Debug, Drop)]
 pub struct Sums {
     pub task: Name,
@@ -31,10 +33,15 @@ fn add_share<V: Vdaf>(vdaf: &V, total: &mut Vec<u8>, out: &[u8])
 }
 
 impl Sums {
-    ghost use Rattle.dap_direct.specs.Sums.{is_of, AreSums, AreOutShares, Counts, IsReady, answer_of};
+    ghost use Rattle.dap_direct.specs.Sums.{is_of, AddsSums, AreSums, AreOutShares, Counts, IsReady, answer_of, line_of};
 
-    /// No reports of the task's batch that starts there.
-    fn none<V: Vdaf>(alloc: Global, vdaf: &V, task: Name, start: u64) -> Result<Sums, AllocError>
+    /// No reports of the task's bucket, or batch, that starts there.
+    pub fn none<V: Vdaf>(
+        alloc: Global,
+        vdaf: &V,
+        task: Name,
+        start: u64,
+    ) -> Result<Sums, AllocError>
         ensures task { IfOk result (λ s. s.task ≡ task) }
         ensures start { IfOk result (λ s. s.start ≡ start) }
         ensures sums { IfOk result (AreSums (V.functions vdaf.now) [] 0) }
@@ -68,13 +75,36 @@ impl Sums {
         }
     }
 
+    /// Adds the sums of another bucket.
+    pub fn join<V: Vdaf>(&mut self, vdaf: &V, other: &Sums)
+        requires leader { IsOut (V.functions vdaf.now).space self.old.leader.items }
+        requires helper { IsOut (V.functions vdaf.now).space self.old.helper.items }
+        requires other_leader { IsOut (V.functions vdaf.now).space other.now.leader.items }
+        requires other_helper { IsOut (V.functions vdaf.now).space other.now.helper.items }
+        requires reports { self.old.reports + other.now.reports < 2 ^ 32 }
+        requires rejected { self.old.rejected + other.now.rejected < 2 ^ 32 }
+        ensures { AddsSums (V.functions vdaf.now) other.now self.old self.new }
+    {
+        add_share(vdaf, &mut self.leader, &other.leader);
+        add_share(vdaf, &mut self.helper, &other.helper);
+        self.reports += other.reports;
+        self.rejected += other.rejected;
+    }
+
     fn is_of(&self, task: &Name, start: u64) -> bool
         ensures { result ≡ is_of task.now start self.now }
     {
         self.task == *task && self.start == start
     }
 
-    /// The place of the sums of the task's batch that starts there, which is the number of all sums where it has none.
+    /// The sums of the task's bucket that starts there, if it has any. It takes no memory.
+    pub fn find<'a>(sums: &'a [Sums], task: &Name, start: u64) -> Option<&'a Sums>
+        ensures { option_map (λ s. s.now) result ≡ find (is_of task.now start) sums.now }
+    {
+        sums.iter().find(|bucket| bucket.is_of(task, start))
+    }
+
+    /// The place of the sums of the task's bucket that starts there, which is the number of all sums where it has none.
     fn place(sums: &[Sums], task: &Name, start: u64) -> usize
         ensures { result ≡ position_or_len (is_of task.now start) sums.now }
     {
@@ -88,7 +118,7 @@ impl Sums {
         place
     }
 
-    /// The place of the sums of the task's batch that starts there, which are made where it has none.
+    /// The place of the sums of the task's bucket that starts there, which are made where it has none.
     pub fn ready<V: Vdaf>(
         sums: &mut Vec<Sums>,
         alloc: Global,
@@ -106,7 +136,7 @@ impl Sums {
     }
 
     /// What the sums come to.
-    pub fn collected<V: Vdaf>(&self, alloc: Global, vdaf: &V) -> Result<Collected, AllocError>
+    fn collected<V: Vdaf>(&self, alloc: Global, vdaf: &V) -> Result<Collected, AllocError>
         requires leader { IsOut (V.functions vdaf.now).space self.now.leader.items }
         requires helper { IsOut (V.functions vdaf.now).space self.now.helper.items }
         ensures { IfOk result (λ what. what ≡ record {
@@ -120,5 +150,21 @@ impl Sums {
             rejected: self.rejected,
             answer: vdaf.answer(alloc, &self.leader, &self.helper)?,
         })
+    }
+
+    /// The printed line of a collected batch of these sums.
+    pub fn line<V: Vdaf>(
+        &self,
+        alloc: Global,
+        vdaf: &V,
+        name: Name,
+        span: Span,
+    ) -> Result<Printed, AllocError>
+        requires leader { IsOut (V.functions vdaf.now).space self.now.leader.items }
+        requires helper { IsOut (V.functions vdaf.now).space self.now.helper.items }
+        ensures { IfOk result (λ line. line ≡ line_of (V.functions vdaf.now) name span self.now) }
+    {
+        let what = self.collected(alloc, vdaf)?;
+        Ok(Printed::Collected { name, span, what })
     }
 }

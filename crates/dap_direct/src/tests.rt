@@ -4,7 +4,7 @@
 ghost use Rattle.std.specs.Prelude.{◌≤◌, length};
 
 use super::*;
-use dap_bytes::Name;
+use dap_bytes::{Name, Span};
 use dap_model::Limits;
 use dap_script::{Line, read_script};
 use dap_tasks::{Task, trial};
@@ -69,6 +69,46 @@ collect w 0
 upload AXgAAAAAAAAAAAAAAAAAAAABAAAAAAAAAAoAAAAAAAAAAAAYNIOl0ntJyzZmzPdYQxB9a6EB0vAEtZIWAAAAGD26Mc0epiBnrt13/g5FwhS/3EQF80b/ZQ==
 upload AXYAAAAAAAAAAAAAAAAAAAABAAAAAAAAAAoAAAAAAAAAAAAYNIOl0g==
 upload BXY=
+";
+
+/// Two tasks, of which one expires, and batches of several buckets that share some.
+const SPANS: &str = "task s sum 16 1 10
+task w sum 16 1 10 expires 50
+measure s 00000000000000000000000000000001 45 7 00000000000000000000000000000001
+measure s 00000000000000000000000000000002 19 5 00000000000000000000000000000002
+measure w 00000000000000000000000000000003 25 3 00000000000000000000000000000003
+collect s 40 2
+collect s 10 2
+collect s 0 64
+collect s 20
+collect s 30
+collect s 20 2
+collect w 0 64
+measure s 00000000000000000000000000000004 29 1 00000000000000000000000000000004
+measure s 00000000000000000000000000000005 30 2 00000000000000000000000000000005
+collect s 30 1
+collect s 10 2
+collect s 7 2
+now 50
+measure w 00000000000000000000000000000006 700 4 00000000000000000000000000000006
+measure w 00000000000000000000000000000006 350 4 00000000000000000000000000000006
+measure w 00000000000000000000000000000003 25 3 00000000000000000000000000000003
+measure s 00000000000000000000000000000007 350 4 00000000000000000000000000000007
+";
+
+const SPANS_TEXT: &str = "collected s 40 2 reports 1 rejected 0 sum 7
+collected s 10 2 reports 1 rejected 0 sum 5
+refused 8 overlap 10 2
+refused 9 overlap 10 2
+small s 30 reports 0
+refused 11 overlap 10 2
+collected w 0 64 reports 1 rejected 0 sum 3
+refused 13 collected
+collected s 30 reports 1 rejected 0 sum 2
+collected s 10 2 reports 1 rejected 0 sum 5
+refused 17 start
+refused 19 early
+refused 20 expired
 ";
 
 const UPLOADS_TEXT: &str = "collected v 0 reports 1 rejected 0 sum 5
@@ -155,6 +195,7 @@ fn printed(alloc: Global, limits: &Limits, script: &str) -> Result<Result<Vec<u8
 fn scripts_print_what_the_model_says(rt: HostRuntime) -> Result<(), Fail> {
     for (script, text) in [
         (SCRIPT, TEXT),
+        (SPANS, SPANS_TEXT),
         (UPLOADS, UPLOADS_TEXT),
         (KNOWN, KNOWN_TEXT),
         (TAMPERED, TAMPERED_TEXT),
@@ -204,14 +245,18 @@ fn limits_are_passed_at_their_line(rt: HostRuntime) -> Result<(), Fail> {
 fn collected(alloc: Global, given: Task) -> Result<Vec<u8>, Fail> {
     let name = given.name;
     let _bytes = name.as_bytes();
-    let script = [Line::Collect { name, start: 0 }];
+    let span = Span {
+        start: 0,
+        buckets: 1,
+    };
+    let script = [Line::Collect { name, span }];
     Ok(printed_text::<Toy>(alloc, &WIDE, vec![in alloc; given]?, &script)?)
 }
 
 #[test]
 fn given_tasks_are_known(rt: HostRuntime) -> Result<(), Fail> {
     let name = Name::new(b"v").ok_or("a name")?;
-    let printed = collected(rt.alloc(), trial(name, Kind::Count, 3, 3600))?;
+    let printed = collected(rt.alloc(), trial(name, Kind::Count, 3, 3600, None))?;
     assert_eq!(rt;
         str::from_utf8(&printed).ok(),
         Some("small v 0 reports 0\n")

@@ -1,9 +1,8 @@
 -- What a collection prints, in the measurements of the lines before it.
-use Rattle.std.proofs.Common.{◌≡◌, ℕ, ◌+◌, ◌%◌, List, [], ◌∷◌, ◌++◌, length, Bool, cond, true, false, not, ◌&&◌, ◌||◌, nat_eq, nat_le, count_by, length-append, zero-add, is_none, Option, Some, refl, sym, ap, subst, ◌∙◌}
-use Rattle.std.proofs.lemmas.Bool.{eq-eqb}
+use Rattle.std.proofs.Common.{◌≡◌, ℕ, ◌+◌, List, [], ◌∷◌, ◌++◌, length, Bool, cond, true, false, ◌&&◌, nat_eq, nat_le, count_by, length-append, zero-add, is_none, Option, Some, refl, sym, ap, subst, ◌∙◌, if◌then◌else◌, None, arith}
 use Rattle.std.proofs.lemmas.List.Sums.{sum_by-cons}
 use Rattle.std.proofs.lemmas.Slice.Eq.{bytes_eq-Decides}
-use Rattle.std.specs.List.{find, list_any}
+use Rattle.std.specs.List.{find, list_any, flat_map, sum_by}
 use Rattle.std.specs.Option.{option_map, option_map_or, option_to_list}
 use Rattle.std.specs.Str.{bytes_eq}
 use Rattle.vdaf_api.specs.Functions.{Functions}
@@ -19,14 +18,20 @@ use Rattle.dap_tasks.specs.Task.{PlainTask, has_name}
 use Rattle.dap_tasks.specs.declared.cause.Cause.TheVariants as cause
 use Rattle.dap_script.specs.declared.line.Line.{Line}
 use Rattle.dap_script.specs.declared.line.Line.TheVariants as line
-use Rattle.dap_model.specs.Counts.{AreTaken, IsTaken, collects, counted_line, falls_in, measured, vectors_in}
+use Rattle.dap_model.specs.Counts.{AreTaken, IsTaken, collects, counted_line, falls_in, measured, vectors_in, batch_vectors}
 use Rattle.dap_model.specs.Run.{state_after}
-use Rattle.dap_model.specs.State.{State, content_of, contents_in, in_batch, is_collected, opening, rejected_in}
-use Rattle.dap_model.specs.Step.{Outcome, collect_of, refused, step}
-use Rattle.dap_model.specs.declared.printed.Printed.{Printed}
+use Rattle.dap_model.specs.State.{State, content_of, contents_in, in_bucket, is_collected, opening, rejected_in, batch_contents, batch_rejected, earliest, sharing, shares_with}
+use Rattle.dap_model.specs.Step.{collect_of, refused, step, collection_of, reports_with_content}
 use Rattle.dap_model.specs.declared.printed.Printed.TheVariants.{Collected, Small}
 use Rattle.dap_model.proofs.ChangeLaws.{found_name}
 use Rattle.dap_model.proofs.TakenLaws.{Stands, made_is, opening_stands, reports_of, run_stands}
+use Rattle.dap_bytes.specs.Spans.{HasBuckets, buckets_of, passes_start}
+use Rattle.dap_bytes.specs.declared.span.Span.{Span}
+use Rattle.std.proofs.lemmas.Bool.{and_from, both_ways, or_left}
+use Rattle.dap_model.proofs.ListLemmas.{any_from}
+use Rattle.dap_model.proofs.OfferLaws.{collected_not}
+use Rattle.dap_model.specs.BatchLaws.{holds-start}
+use Rattle.dap_model.proofs.CollectLaws.{none-overlap, tests}
 
 abbrev one_if : Bool → ℕ
 one_if b = cond b 1 0
@@ -35,22 +40,14 @@ first_true : (a b : Bool) → (a && b) ≡ true → a ≡ true
 first_true true b e = refl
 first_true false b e = cc e
 
--- what a collection prints, by its tests
-prints : (aligned closed : Bool) → aligned ≡ true → closed ≡ false → (enough : Bool) (s t : State) (refusal : List Printed) (a b : Printed)
-    → (let o : Outcome = cond (not aligned) (s, refusal) (cond (closed || enough) (t, a ∷ []) (s, b ∷ [])) in o.1) ≡ cond enough a b ∷ []
-prints true false e h true s t refusal a b = refl
-prints true false e h false s t refusal a b = refl
-prints true true e h enough s t refusal a b = cc h
-prints false closed e h enough s t refusal a b = cc e
-
 count_by-cons : (task : PlainTask) (start : ℕ) (l : Line) (more : List Line) → count_by (falls_in task start) (l ∷ more) ≡ one_if (falls_in task start l) + count_by (falls_in task start) more
 count_by-cons task start l more = sum_by-cons (λ x. cond (falls_in task start x) 1 0) l more
 
 module _ (f : Kind → Functions) (tasks : List PlainTask) where
   -- what a report adds to the contents and to the rejected ones, and what its line adds to the vectors
   record Head (task : PlainTask) (start : ℕ) (a : Report) (l : Line) : Type 0 where
-    contents : cond (in_batch task start a) (option_to_list (content_of f task a)) [] ≡ cond (falls_in task start l) (option_to_list (measured (f task.kind) l)) []
-    rejected : one_if (in_batch task start a && is_none (content_of f task a)) ≡ 0
+    contents : cond (in_bucket task start a) (option_to_list (content_of f task a)) [] ≡ cond (falls_in task start l) (option_to_list (measured (f task.kind) l)) []
+    rejected : one_if (in_bucket task start a && is_none (content_of f task a)) ≡ 0
     reports : length (cond (falls_in task start l) (option_to_list (measured (f task.kind) l)) []) ≡ one_if (falls_in task start l)
 
   head_is : ((k : Kind) → IsKind k → FunctionLaws (f k)) → (task : PlainTask) → find (has_name task.name) tasks ≡ Some task → (start : ℕ)
@@ -58,7 +55,7 @@ module _ (f : Kind → Functions) (tasks : List PlainTask) where
       → Head task start (report_of t.task id time t.shares) (line.Measure name id time value seed)
   head_is laws task known start done name id time value seed t = go (falls_in task start (line.Measure name id time value seed)) refl
     where
-      inside : in_batch task start (report_of t.task id time t.shares) ≡ falls_in task start (line.Measure name id time value seed)
+      inside : in_bucket task start (report_of t.task id time t.shares) ≡ falls_in task start (line.Measure name id time value seed)
       inside = ap (λ (n : List ℕ). bytes_eq n task.name && nat_eq (batch_start time task.precision) start) (found_name name tasks t.task t.known)
 
       go : (b : Bool) → falls_in task start (line.Measure name id time value seed) ≡ b → Head task start (report_of t.task id time t.shares) (line.Measure name id time value seed)
@@ -115,40 +112,74 @@ module _ (f : Kind → Functions) (tasks : List PlainTask) where
   contents_are laws task known start done (line.Blank ∷ more) t =
       let rest = contents_are laws task known start (done ++ line.Blank ∷ []) more t.1 in
       record { contents = rest.contents; rejected = rest.rejected; reports = rest.reports ∙ sym (count_by-cons task start (line.Blank) more ∙ zero-add (count_by (falls_in task start) more)) }
-  contents_are laws task known start done (line.Task name kind min precision ∷ more) t =
-      let rest = contents_are laws task known start (done ++ line.Task name kind min precision ∷ []) more t.1 in
-      record { contents = rest.contents; rejected = rest.rejected; reports = rest.reports ∙ sym (count_by-cons task start (line.Task name kind min precision) more ∙ zero-add (count_by (falls_in task start) more)) }
+  contents_are laws task known start done (line.Task name kind min precision expires ∷ more) t =
+      let rest = contents_are laws task known start (done ++ line.Task name kind min precision expires ∷ []) more t.1 in
+      record { contents = rest.contents; rejected = rest.rejected; reports = rest.reports ∙ sym (count_by-cons task start (line.Task name kind min precision expires) more ∙ zero-add (count_by (falls_in task start) more)) }
   contents_are laws task known start done (line.Now moment ∷ more) t =
       let rest = contents_are laws task known start (done ++ line.Now moment ∷ []) more t.1 in
       record { contents = rest.contents; rejected = rest.rejected; reports = rest.reports ∙ sym (count_by-cons task start (line.Now moment) more ∙ zero-add (count_by (falls_in task start) more)) }
   contents_are laws task known start done (line.Upload bytes ∷ more) t = absurd t.0
-  contents_are laws task known start done (line.Collect name from ∷ more) t =
-      let rest = contents_are laws task known start (done ++ line.Collect name from ∷ []) more t.1 in
-      record { contents = rest.contents; rejected = rest.rejected; reports = rest.reports ∙ sym (count_by-cons task start (line.Collect name from) more ∙ zero-add (count_by (falls_in task start) more)) }
+  contents_are laws task known start done (line.Collect name span ∷ more) t =
+      let rest = contents_are laws task known start (done ++ line.Collect name span ∷ []) more t.1 in
+      record { contents = rest.contents; rejected = rest.rejected; reports = rest.reports ∙ sym (count_by-cons task start (line.Collect name span) more ∙ zero-add (count_by (falls_in task start) more)) }
   contents_are laws task known start done (line.Restart node ∷ more) t =
       let rest = contents_are laws task known start (done ++ line.Restart node ∷ []) more t.1 in
       record { contents = rest.contents; rejected = rest.rejected; reports = rest.reports ∙ sym (count_by-cons task start (line.Restart node) more ∙ zero-add (count_by (falls_in task start) more)) }
 
-  pub batch_is_counted : ((k : Kind) → IsKind k → FunctionLaws (f k)) → (task : PlainTask) → find (has_name task.name) tasks ≡ Some task → (start k : ℕ) (lines : List Line)
-      → start % task.precision ≡ 0 → AreTaken f tasks [] lines → list_any (collects task.name start) lines ≡ false
-      → (step f (state_after f (opening tasks) 1 lines) k (line.Collect task.name start)).1 ≡ counted_line f task start lines ∷ []
-  batch_is_counted laws task known start k lines aligned taken open_ =
+  -- likewise one bucket after the other
+  record AllSame (task : PlainTask) (lines : List Line) (starts : List ℕ) : Type 0 where
+    contents : flat_map (λ start. contents_in f task start (reports_of f tasks lines)) starts ≡ flat_map (λ start. vectors_in (f task.kind) task start lines) starts
+    rejected : sum_by (λ start. rejected_in f task start (reports_of f tasks lines)) starts ≡ 0
+    reports : length (flat_map (λ start. vectors_in (f task.kind) task start lines) starts) ≡ sum_by (λ start. count_by (falls_in task start) lines) starts
+
+  all_same : (task : PlainTask) (lines : List Line) → ((start : ℕ) → Same task start lines) → (starts : List ℕ) → AllSame task lines starts
+  all_same task lines each [] = record { contents = refl; rejected = refl; reports = refl }
+  all_same task lines each (start ∷ more) =
+      let one : Same task start lines = each start in
+      let rest : AllSame task lines more = all_same task lines each more in
+      record {
+        contents = ap (λ l. l ++ flat_map (λ start. contents_in f task start (reports_of f tasks lines)) more) one.contents ∙ ap (λ l. vectors_in (f task.kind) task start lines ++ l) rest.contents;
+        rejected = omega (arith, one.rejected, rest.rejected, sum_by-cons (λ start. rejected_in f task start (reports_of f tasks lines)) start more);
+        reports = omega (arith, one.reports, rest.reports, sum_by-cons (λ start. count_by (falls_in task start) lines) start more, length-append (vectors_in (f task.kind) task start lines) (flat_map (λ start. vectors_in (f task.kind) task start lines) more));
+      }
+
+  -- a batch shares a bucket with itself
+  shares-itself : (task : PlainTask) (span : Span) → HasBuckets span → shares_with task span (record { task = task.name; span = span }) ≡ true
+  shares-itself task span some =
+      and_from _ _ ((bytes_eq-Decides task.name task.name).1 refl) (or_left _ _ (holds-start span task.precision some.0))
+
+  pub batch_is_counted : ((k : Kind) → IsKind k → FunctionLaws (f k)) → (task : PlainTask) → find (has_name task.name) tasks ≡ Some task → (span : Span) (k : ℕ) (lines : List Line)
+      → HasBuckets span → passes_start span task.precision ≡ true → AreTaken f tasks [] lines → list_any (collects (shares_with task span)) lines ≡ false
+      → (step f (state_after f (opening tasks) 1 lines) k (line.Collect task.name span)).1 ≡ counted_line f task span lines ∷ []
+  batch_is_counted laws task known span k lines some passes taken open_ =
       let s : State = state_after f (opening tasks) 1 lines in
       let h : Stands f tasks lines s = run_stands f tasks [] (opening tasks) 1 lines (opening_stands f tasks) taken in
-      let same : Same task start lines = contents_are laws task known start [] lines taken in
+      let starts : List ℕ = buckets_of span task.precision in
+      let same : AllSame task lines starts = all_same task lines (λ start. contents_are laws task known start [] lines taken) starts in
       let g : Functions = f task.kind in
       let found : find (has_name task.name) s.tasks ≡ Some task = ap (find (has_name task.name)) h.known ∙ known in
-      let contents : contents_in f task start s.accepted ≡ vectors_in g task start lines = ap (contents_in f task start) h.accepted ∙ same.contents in
-      let rejected : rejected_in f task start s.accepted ≡ 0 = ap (rejected_in f task start) h.accepted ∙ same.rejected in
-      ap (λ (o : Option PlainTask). (option_map_or (collect_of f s k start) o (refused s k cause.Task)).1) found
-      ∙ prints (nat_eq (start % task.precision) 0) (is_collected s.collected task.name start) (eq-eqb (start % task.precision) 0 aligned) (h.collected task.name start open_)
-      (nat_le task.min (length (contents_in f task start s.accepted))) s _ _ _ _
+      let contents : batch_contents f task span s.accepted ≡ batch_vectors g task span lines = ap (batch_contents f task span) h.accepted ∙ same.contents in
+      let rejected : batch_rejected f task span s.accepted ≡ 0 = ap (batch_rejected f task span) h.accepted ∙ same.rejected in
+      let apart : list_any (shares_with task span) s.collected ≡ false = h.collected (shares_with task span) open_ in
+      let was : is_collected s.collected task.name span ≡ false = collected_not s.collected task.name span (λ c.
+      both_ways (list_any (shares_with task span) s.collected) apart (any_from (shares_with task span) s.collected (record { task = task.name; span = span }) c (shares-itself task span some))) in
+      let other : earliest (sharing task span s.collected) ≡ None = none-overlap s task span (λ o over.
+      both_ways (list_any (shares_with task span) s.collected) apart
+      (any_from (shares_with task span) s.collected (record { task = task.name; span = o }) over.collected (and_from _ _ ((bytes_eq-Decides task.name task.name).1 refl) over.shared))) in
+      ap (λ (o : Option PlainTask). (option_map_or (collect_of f s k span) o (refused s k cause.Task)).1) found
+      ∙ (λ i. (tests f s k span task (passes i) (was i) (other i) (nat_le task.min (reports_with_content f s task span))).1)
+      ∙ tell s task span k (nat_le task.min (reports_with_content f s task span))
       ∙ ap (λ c. cond (nat_le task.min (length c))
-      (Collected task.name start (record { reports = length c; rejected = rejected_in f task start s.accepted; answer = g.answer (total_numbers g.space c) }))
-      (Small task.name start (length c)) ∷ []) contents
-      ∙ ap (λ (r : ℕ). cond (nat_le task.min (length (vectors_in g task start lines)))
-      (Collected task.name start (record { reports = length (vectors_in g task start lines); rejected = r; answer = g.answer (total_numbers g.space (vectors_in g task start lines)) }))
-      (Small task.name start (length (vectors_in g task start lines))) ∷ []) rejected
+      (Collected task.name span (record { reports = length c; rejected = batch_rejected f task span s.accepted; answer = g.answer (total_numbers g.space c) }))
+      (Small task.name span (length c)) ∷ []) contents
+      ∙ ap (λ (r : ℕ). cond (nat_le task.min (length (batch_vectors g task span lines)))
+      (Collected task.name span (record { reports = length (batch_vectors g task span lines); rejected = r; answer = g.answer (total_numbers g.space (batch_vectors g task span lines)) }))
+      (Small task.name span (length (batch_vectors g task span lines))) ∷ []) rejected
       ∙ ap (λ (n : ℕ). cond (nat_le task.min n)
-      (Collected task.name start (record { reports = n; rejected = 0; answer = g.answer (total_numbers g.space (vectors_in g task start lines)) }))
-      (Small task.name start n) ∷ []) same.reports
+      (Collected task.name span (record { reports = n; rejected = 0; answer = g.answer (total_numbers g.space (batch_vectors g task span lines)) }))
+      (Small task.name span n) ∷ []) same.reports
+    where
+      tell : (s : State) (task : PlainTask) (span : Span) (k : ℕ) (enough : Bool)
+          → (tests f s k span task true false None enough).1 ≡ cond enough (collection_of f s task span) (Small task.name span (reports_with_content f s task span)) ∷ []
+      tell s task span k true = refl
+      tell s task span k false = refl

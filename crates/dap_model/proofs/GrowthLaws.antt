@@ -11,6 +11,7 @@ use Rattle.dap_model.specs.Growth.{GrowsTo}
 use Rattle.dap_model.specs.Run.{state_after}
 use Rattle.dap_model.specs.State.{Batch, State, with_collected}
 use Rattle.dap_model.specs.Step.{raised, step}
+use Rattle.dap_bytes.specs.declared.span.Span.{Span}
 
 grows_same : (s : State) → GrowsTo s s
 grows_same s = record {
@@ -47,13 +48,13 @@ grows_by_report s r = record {
   collected = sym (append-nil s.collected);
 }
 
-grows_by_batch : (s : State) (name : List ℕ) (start : ℕ) → GrowsTo s (with_collected s name start)
-grows_by_batch s name start = record {
+grows_by_batch : (s : State) (name : List ℕ) (span : Span) → GrowsTo s (with_collected s name span)
+grows_by_batch s name span = record {
   tasks = refl;
   moment = λ m e. (m, e, omega arith);
   reports_behind = [];
   accepted = sym (append-nil s.accepted);
-  batches_behind = record { task = name; start = start } ∷ [];
+  batches_behind = record { task = name; span = span } ∷ [];
   collected = refl;
 }
 
@@ -72,7 +73,7 @@ grows_to s a b e g = subst (GrowsTo s) (sym e) g
 
 grows_by : (s after : State) (l : Line) → ChangesNamed s after l → GrowsTo s after
 grows_by s after line.Blank e = grows_to s s after e (grows_same s)
-grows_by s after (line.Task name kind min precision) e = grows_to s s after e (grows_same s)
+grows_by s after (line.Task name kind min precision expires) e = grows_to s s after e (grows_same s)
 grows_by s after (line.Now t) e = grows_to s (record s { moment = raised s.moment t }) after e (grows_by_moment s t)
 grows_by s after (line.Measure name id time value seed) (inl e) = grows_to s s after e (grows_same s)
 grows_by s after (line.Measure name id time value seed) (inr h) =
@@ -80,8 +81,8 @@ grows_by s after (line.Measure name id time value seed) (inr h) =
 grows_by s after (line.Upload bytes) (inl e) = grows_to s s after e (grows_same s)
 grows_by s after (line.Upload bytes) (inr h) =
     grows_to s (record s { accepted = s.accepted ++ h.report ∷ [] }) after h.grown (grows_by_report s h.report)
-grows_by s after (line.Collect name start) (inl e) = grows_to s s after e (grows_same s)
-grows_by s after (line.Collect name start) (inr e) = grows_to s (with_collected s name start) after e (grows_by_batch s name start)
+grows_by s after (line.Collect name span) (inl e) = grows_to s s after e (grows_same s)
+grows_by s after (line.Collect name span) (inr e) = grows_to s (with_collected s name span) after e (grows_by_batch s name span)
 grows_by s after (line.Restart node) e = grows_to s s after e (grows_same s)
 
 pub grows_over : (f : Kind → Functions) (s : State) (k : ℕ) (lines : List Line) → GrowsTo s (state_after f s k lines)

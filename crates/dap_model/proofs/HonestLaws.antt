@@ -1,5 +1,5 @@
 -- A batch of honest fair reports is counted by its measurements.
-use Rattle.std.proofs.Common.{◌≡◌, ◌⊎◌, ℕ, ◌%◌, ◌≤◌, List, [], ◌∷◌, length, suc, filter_map, Some, refl, ap, ◌∙◌, inl, inr, arith}
+use Rattle.std.proofs.Common.{◌≡◌, ◌⊎◌, ℕ, ◌≤◌, List, [], ◌∷◌, length, suc, filter_map, Some, refl, ap, ◌∙◌, inl, inr, arith, true}
 use Rattle.std.specs.List.{cons_option}
 use Rattle.vdaf_api.specs.Functions.{Functions}
 use Rattle.vdaf_api.specs.Promises.{FunctionLaws}
@@ -11,11 +11,14 @@ use Rattle.dap_seal.specs.Reports.{content_numbers_of}
 use Rattle.dap_tasks.specs.Task.{PlainTask}
 use Rattle.dap_script.specs.declared.line.Line.TheVariants as line
 use Rattle.dap_model.proofs.CollectLaws.{collect-first_cause}
-use Rattle.dap_model.specs.Collections.{CollectsBatch, WasCollected, batch_reports, contents_counted, vectors_of}
+use Rattle.dap_model.specs.Collections.{WasCollected, batch_reports, contents_counted, vectors_of, IsFree, PrintsCounts}
 use Rattle.dap_model.specs.Honest.{Carries, CarryEach, honest_line}
 use Rattle.dap_model.specs.State.{State, task_named}
-use Rattle.dap_model.specs.Step.{Outcome, step}
+use Rattle.dap_model.specs.Step.{step}
 use Rattle.dap_model.specs.declared.printed.Printed.TheVariants.{Collected}
+use Rattle.dap_model.specs.declared.printed.Printed.{Printed}
+use Rattle.dap_bytes.specs.declared.span.Span.{Span}
+use Rattle.dap_bytes.specs.Spans.{passes_start}
 
 module _ (f : Kind → Functions) (t : PlainTask) (laws : FunctionLaws (f t.kind)) (key : length t.verify ≡ 16) where
   abbrev vectors : List ℕ → List (List ℕ)
@@ -48,25 +51,25 @@ module _ (f : Kind → Functions) (t : PlainTask) (laws : FunctionLaws (f t.kind
       let vector = laws.measured r.id m one.seed made.parts one.id_bytes one.seed_bytes made.sharded in
       ap (λ o. length (cons_option o (vectors ms))) vector.1 ∙ ap suc (length-vectors ms rs h.1)
 
-  module _ (s : State) (k : ℕ) (name : List ℕ) (start : ℕ) (ms : List ℕ) (h : CarryEach f t ms (batch_reports s t start)) where
+  module _ (s : State) (k : ℕ) (name : List ℕ) (span : Span) (ms : List ℕ) (h : CarryEach f t ms (batch_reports s t span)) where
     abbrev reports : List Report
-    reports = batch_reports s t start
+    reports = batch_reports s t span
 
-    counted-carried : contents_counted f s t start ≡ length ms
+    counted-carried : contents_counted f s t span ≡ length ms
     counted-carried = ap (λ (vs : List (List ℕ)). length vs) (vectors-carried ms reports h) ∙ length-vectors ms reports h
 
-    line-carried : (after : Outcome) → CollectsBatch f s t name start after → after.1 ≡ honest_line f t name start ms ∷ []
-    line-carried after c =
+    line-carried : (printed : List Printed) → PrintsCounts f s t name span printed → printed ≡ honest_line f t name span ms ∷ []
+    line-carried printed c =
         let with_content : c.what.reports ≡ length ms = c.counted.with_content ∙ counted-carried in
         let none : c.what.rejected ≡ 0 = omega (arith, with_content, c.counted.each_once, length-carried ms reports h) in
         let answer = c.counted.answer ∙ ap (λ (vs : List (List ℕ)). (f t.kind).answer (total_numbers (f t.kind).space vs)) (vectors-carried ms reports h) in
-        c.printed ∙ λ i. Collected name start (record { reports = with_content i; rejected = none i; answer = answer i }) ∷ []
+        c.is ∙ λ i. Collected name span (record { reports = with_content i; rejected = none i; answer = answer i }) ∷ []
 
-    pub honest-batch : task_named s.tasks name ≡ Some t → start % t.precision ≡ 0 → WasCollected s name start ⊎ (t.min ≤ length ms)
-        → (step f s k (line.Collect name start)).1 ≡ honest_line f t name start ms ∷ []
-    honest-batch known aligned due =
-        line-carried (step f s k (line.Collect name start)) ((collect-first_cause f s k name start).full t known aligned (due_by due))
+    pub honest-batch : task_named s.tasks name ≡ Some t → passes_start span t.precision ≡ true
+        → WasCollected s name span ⊎ (IsFree s name t.precision span × (t.min ≤ length ms))
+        → (step f s k (line.Collect name span)).1 ≡ honest_line f t name span ms ∷ []
+    honest-batch known passes due = line-carried (step f s k (line.Collect name span)).1 (by due)
       where
-        due_by : WasCollected s name start ⊎ (t.min ≤ length ms) → WasCollected s name start ⊎ (t.min ≤ contents_counted f s t start)
-        due_by (inl was) = inl was
-        due_by (inr many) = inr (omega (arith, many, counted-carried))
+        by : WasCollected s name span ⊎ (IsFree s name t.precision span × (t.min ≤ length ms)) → PrintsCounts f s t name span (step f s k (line.Collect name span)).1
+        by (inl was) = (((collect-first_cause f s k span name).known t known).again passes was).printed
+        by (inr (free, many)) = (((collect-first_cause f s k span name).known t known).full passes free (omega (arith, many, counted-carried))).printed

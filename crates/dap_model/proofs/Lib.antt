@@ -1,9 +1,11 @@
+pub mod ApartLaws
 pub mod ChangeLaws
 pub mod CollectLaws
 pub mod CountLaws
 pub mod Fronts
 pub mod GrowthLaws
 pub mod HonestLaws
+pub mod ListLemmas
 pub mod MomentLaws
 pub mod NameLemmas
 pub mod NumberLaws
@@ -13,5 +15,6 @@ pub mod OnceLaws
 pub mod PassLaws
 pub mod RepeatLaws
 pub mod TakenLaws
+pub mod TestLemmas
 pub mod UploadLaws
 pub mod UploadedLaws

@@ -39,13 +39,13 @@ left_alone done s after e h = subst (λ (times : List ℕ). IsGreatest times aft
 moment_by : (done : List ℕ) (s after : State) (l : Line) → ChangesNamed s after l → IsGreatest done s.moment → IsGreatest (done ++ time_in l) after.moment
 moment_by done s after (line.Now t) e h = subst (λ (x : State). IsGreatest (done ++ t ∷ []) x.moment) (sym e) (greatest-push done s.moment t h)
 moment_by done s after line.Blank e h = left_alone done s after (ap (λ (x : State). x.moment) e) h
-moment_by done s after (line.Task name kind min precision) e h = left_alone done s after (ap (λ (x : State). x.moment) e) h
+moment_by done s after (line.Task name kind min precision expires) e h = left_alone done s after (ap (λ (x : State). x.moment) e) h
 moment_by done s after (line.Measure name id time value seed) (inl e) h = left_alone done s after (ap (λ (x : State). x.moment) e) h
 moment_by done s after (line.Measure name id time value seed) (inr adds) h = left_alone done s after (ap (λ (x : State). x.moment) adds.grown) h
 moment_by done s after (line.Upload bytes) (inl e) h = left_alone done s after (ap (λ (x : State). x.moment) e) h
 moment_by done s after (line.Upload bytes) (inr adds) h = left_alone done s after (ap (λ (x : State). x.moment) adds.grown) h
-moment_by done s after (line.Collect name start) (inl e) h = left_alone done s after (ap (λ (x : State). x.moment) e) h
-moment_by done s after (line.Collect name start) (inr adds) h = left_alone done s after (ap (λ (x : State). x.moment) adds) h
+moment_by done s after (line.Collect name span) (inl e) h = left_alone done s after (ap (λ (x : State). x.moment) e) h
+moment_by done s after (line.Collect name span) (inr adds) h = left_alone done s after (ap (λ (x : State). x.moment) adds) h
 moment_by done s after (line.Restart node) e h = left_alone done s after (ap (λ (x : State). x.moment) e) h
 
 run_keeps : (f : Kind → Functions) (done : List ℕ) (s : State) (k : ℕ) (lines : List Line) → IsGreatest done s.moment → IsGreatest (done ++ times_of lines) (state_after f s k lines).moment

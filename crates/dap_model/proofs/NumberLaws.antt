@@ -1,6 +1,6 @@
 -- Each line prints as the line of its number.
-use Rattle.std.proofs.Common.{◌≡◌, ℕ, ◌+◌, ◌%◌, List, [], ◌∷◌, ◌++◌, length, nat_eq, not, Bool, cond, true, false, Option, Some, None, sym, ap, ◌∙◌, inl, inr, arith, append_assoc}
-use Rattle.std.specs.List.{find}
+use Rattle.std.proofs.Common.{◌≡◌, ℕ, ◌+◌, List, [], ◌∷◌, ◌++◌, length, not, Bool, cond, true, false, Option, Some, None, sym, ap, ◌∙◌, inl, inr, arith, append_assoc}
+use Rattle.std.specs.List.{find, Contains}
 use Rattle.std.specs.Option.{option_map_or}
 use Rattle.vdaf_api.specs.Functions.{Functions}
 use Rattle.vdaf_api.specs.declared.kind.Kind.{Kind}
@@ -13,30 +13,35 @@ use Rattle.dap_tasks.specs.declared.cause.Judged.{Judged}
 use Rattle.dap_tasks.specs.declared.cause.Judged.TheVariants.{Again, Barred, Added}
 use Rattle.dap_script.specs.declared.line.Line.{Line}
 use Rattle.dap_script.specs.declared.line.Line.TheVariants as line
-use Rattle.dap_model.proofs.ChangeLaws.{judgement_of}
-use Rattle.dap_model.proofs.OfferLaws.{contains_cases}
 use Rattle.dap_model.specs.Numbers.{AreOfLine, PrintsByItsNumber, in_its_place}
 use Rattle.dap_model.specs.Printed.{text_of}
 use Rattle.dap_model.specs.Run.{printed_from, state_after, tasks_of}
-use Rattle.dap_model.specs.State.{State, contents_in, opening}
-use Rattle.dap_model.specs.Step.{Outcome, after_judgement, collect_of, collection_of, is_due, measure_of, name_in, offered, refused, report_in, step, upload_named, upload_to, with_batch}
+use Rattle.dap_model.specs.State.{State, opening, earliest, is_collected, sharing, with_collected}
+use Rattle.dap_model.specs.Step.{Outcome, after_judgement, collect_of, collection_of, measure_of, name_in, offered, refused, report_in, step, upload_named, upload_to, judgement, reports_with_content}
 use Rattle.dap_model.specs.declared.printed.Printed.{Printed}
-use Rattle.dap_model.specs.declared.printed.Printed.TheVariants.{Refused, Small}
+use Rattle.dap_model.specs.declared.printed.Printed.TheVariants.{Refused, Small, Overlap}
+use Rattle.dap_bytes.specs.declared.span.Span.{Span}
+use Rattle.dap_model.proofs.ListLemmas.{contains_cases}
+use Rattle.std.specs.Prelude.{nat_le}
+use Rattle.dap_bytes.specs.Spans.{passes_start}
 
 -- ---- one line
 
 module _ (f : Kind → Functions) (s : State) (k : ℕ) where
   none-of : AreOfLine k []
-  none-of n why c = absurd (omega (arith, c.1))
+  none-of = record { refused = λ n why c. absurd (omega (arith, c.1)); overlaps = λ n other c. absurd (omega (arith, c.1)) }
 
-  one-of : (p : Printed) → ((n : ℕ) (why : Cause) → p ≡ Refused n why → n ≡ k) → AreOfLine k (p ∷ [])
-  one-of p own n why c = elim (contains_cases p [] (Refused n why) c) [
-    | inl e ↦ own n why e
+  alone : (p q : Printed) → Contains (p ∷ []) q → p ≡ q
+  alone p q c = elim (contains_cases p [] q c) [
+    | inl e ↦ e
     | inr none ↦ absurd (omega (arith, none.1))
   ]
 
+  one-of : (p : Printed) → ((n : ℕ) (why : Cause) → p ≡ Refused n why → n ≡ k) → ((n : ℕ) (other : Span) → p ≡ Overlap n other → n ≡ k) → AreOfLine k (p ∷ [])
+  one-of p own both = record { refused = λ n why c. own n why (alone p (Refused n why) c); overlaps = λ n other c. both n other (alone p (Overlap n other) c) }
+
   refusal-of : (why : Cause) → AreOfLine k (refused s k why).1
-  refusal-of why = one-of (Refused k why) (λ n other e. cc)
+  refusal-of why = one-of (Refused k why) (λ n other e. cc) (λ n other e. absurd cc)
 
   judgement-of : (r : Report) (j : Judged) → AreOfLine k (after_judgement s k r j).1
   judgement-of r Again = none-of
@@ -45,7 +50,7 @@ module _ (f : Kind → Functions) (s : State) (k : ℕ) where
 
   offer-of : (t : PlainTask) (why : Cause) (o : Option Report) → AreOfLine k (option_map_or (offered s k t) o (refused s k why)).1
   offer-of t why None = refusal-of why
-  offer-of t why (Some r) = judgement-of r (judgement_of s t r)
+  offer-of t why (Some r) = judgement-of r (judgement s t r)
 
   measure-of : (id : List ℕ) (time value : ℕ) (seed : List ℕ) (o : Option PlainTask) → AreOfLine k (option_map_or (measure_of f s k id time value seed) o (refused s k cause.Task)).1
   measure-of id time value seed None = refusal-of cause.Task
@@ -59,24 +64,35 @@ module _ (f : Kind → Functions) (s : State) (k : ℕ) where
   upload-of bytes None = refusal-of cause.Form
   upload-of bytes (Some name) = named-of bytes (find (has_name name) s.tasks)
 
-  tests-of : (start : ℕ) (t : PlainTask) (unaligned due : Bool)
-      → AreOfLine k (let o : Outcome = cond unaligned (refused s k cause.Start) (cond due (record s { collected = with_batch s.collected t.name start }, collection_of f s t start ∷ [])
-      (s, Small t.name start (length (contents_in f t start s.accepted)) ∷ [])) in o.1)
-  tests-of start t true due = refusal-of cause.Start
-  tests-of start t false true = one-of (collection_of f s t start) (λ n why e. absurd cc)
-  tests-of start t false false = one-of (Small t.name start (length (contents_in f t start s.accepted))) (λ n why e. absurd cc)
+  collection : (t : PlainTask) (span : Span) → AreOfLine k (collection_of f s t span ∷ [])
+  collection t span = one-of (collection_of f s t span) (λ n why e. absurd cc) (λ n other e. absurd cc)
 
-  collect-of : (start : ℕ) (o : Option PlainTask) → AreOfLine k (option_map_or (collect_of f s k start) o (refused s k cause.Task)).1
-  collect-of start None = refusal-of cause.Task
-  collect-of start (Some t) = tests-of start t (not (nat_eq (start % t.precision) 0)) (is_due f s t start)
+  few : (t : PlainTask) (span : Span) → AreOfLine k (Small t.name span (reports_with_content f s t span) ∷ [])
+  few t span = one-of (Small t.name span (reports_with_content f s t span)) (λ n why e. absurd cc) (λ n other e. absurd cc)
+
+  tests-of : (span : Span) (t : PlainTask) (late was : Bool) (other : Option Span) (enough : Bool)
+      → AreOfLine k (let o : Outcome = cond late (refused s k cause.Start) (cond was (s, collection_of f s t span ∷ [])
+      (option_map_or (λ o. (s, Overlap k o ∷ [])) other (cond enough (with_collected s t.name span, collection_of f s t span ∷ [])
+      (s, Small t.name span (reports_with_content f s t span) ∷ [])))) in o.1)
+  tests-of span t true was other enough = refusal-of cause.Start
+  tests-of span t false true other enough = collection t span
+  tests-of span t false false (Some o) enough = one-of (Overlap k o) (λ n why e. absurd cc) (λ n other e. cc)
+  tests-of span t false false None true = collection t span
+  tests-of span t false false None false = few t span
+
+  collect-of : (span : Span) (o : Option PlainTask) → AreOfLine k (option_map_or (collect_of f s k span) o (refused s k cause.Task)).1
+  collect-of span None = refusal-of cause.Task
+  collect-of span (Some t) =
+      tests-of span t (not (passes_start span t.precision)) (is_collected s.collected t.name span) (earliest (sharing t span s.collected))
+      (nat_le t.min (reports_with_content f s t span))
 
   line-of : (l : Line) → AreOfLine k (step f s k l).1
   line-of line.Blank = none-of
-  line-of (line.Task name kind min precision) = none-of
+  line-of (line.Task name kind min precision expires) = none-of
   line-of (line.Now t) = none-of
   line-of (line.Measure name id time value seed) = measure-of id time value seed (find (has_name name) s.tasks)
   line-of (line.Upload bytes) = upload-of bytes (name_in bytes)
-  line-of (line.Collect name start) = collect-of start (find (has_name name) s.tasks)
+  line-of (line.Collect name span) = collect-of span (find (has_name name) s.tasks)
   line-of (line.Restart node) = none-of
 
 -- ---- a script

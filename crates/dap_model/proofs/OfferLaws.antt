@@ -1,67 +1,23 @@
 -- What a report comes to that a line offers.
-use Rattle.std.proofs.Common.{◌≡◌, ◌⊎◌, ℕ, List, [], ◌∷◌, nat_eq, Bool, cond, true, false, ◌||◌, is_some, Option, Some, None, refl, sym, ap, subst, ◌∙◌, inl, inr, arith}
-use Rattle.std.proofs.lemmas.Bool.{and_from, and_parts, both_ways, eq-eqb, eqb-true, or_left, or_right}
-use Rattle.std.proofs.lemmas.List.Elements.{Contains-append_cases, Contains-append_left, Contains-append_right, Contains-push, Contains-push_cases}
+use Rattle.std.proofs.Common.{◌≡◌, ◌⊎◌, ℕ, List, [], ◌∷◌, nat_eq, Bool, cond, true, false, ◌&&◌, is_some, Option, Some, None, refl, sym, ap, subst, ◌∙◌, inl, inr, arith}
+use Rattle.std.proofs.lemmas.Bool.{and_from, and_parts, both_ways, eq-eqb, eqb-true, false_from_ne_true}
 use Rattle.std.proofs.lemmas.Slice.Eq.{bytes_eq-Decides}
 use Rattle.std.specs.List.{Contains, find, list_any}
+use Rattle.dap_bytes.specs.Spans.{buckets_of, holds_bucket}
+use Rattle.dap_bytes.specs.declared.span.Span.{Span}
 use Rattle.std.specs.Option.{option_map}
 use Rattle.std.specs.Str.{bytes_eq}
 use Rattle.dap_batch.specs.Group.{batch_start}
 use Rattle.dap_messages.specs.Messages.{report}
 use Rattle.dap_messages.specs.declared.report.Report.{Report}
-use Rattle.dap_tasks.specs.Judged.{is_early, is_known_as}
+use Rattle.dap_tasks.specs.Judged.{is_early, is_expired, is_known_as}
 use Rattle.dap_tasks.specs.Task.{PlainTask}
-use Rattle.dap_tasks.specs.declared.cause.Cause.TheVariants as cause
-use Rattle.dap_tasks.specs.declared.cause.Judged.TheVariants.{Again, Barred, Added}
+use Rattle.dap_model.proofs.ListLemmas.{Passing, any_from, any_in, contains_cases, found_in}
+use Rattle.dap_model.proofs.TestLemmas.{by_tests}
 use Rattle.dap_model.specs.Changes.{AreDistinct}
-use Rattle.dap_model.specs.Offers.{IsJudged, IsKnown}
-use Rattle.dap_model.specs.State.{Batch, State, has_key, is_batch, is_collected, known_in}
+use Rattle.dap_model.specs.Offers.{IsClosed, IsInTime, IsJudged, IsKnown}
+use Rattle.dap_model.specs.State.{Batch, State, has_bucket, has_key, is_batch, is_closed, is_collected, known_in}
 use Rattle.dap_model.specs.Step.{Outcome, after_judgement, offered}
-
--- ---- lists
-
-pub contains_cases : {X : Type 0} → (y : X) (ys : List X) (x : X) → Contains (y ∷ ys) x → (y ≡ x) ⊎ Contains ys x
-contains_cases {X} y ys x c = elim (Contains-append_cases (y ∷ []) ys x c) [
-  | inl first ↦ elim (Contains-push_cases [] y x first) [
-    | inl none ↦ absurd (omega (arith, none.1))
-    | inr e ↦ inl e
-  ]
-  | inr more ↦ inr more
-]
-
-any_from : {X : Type 0} → (p : X → Bool) (xs : List X) (x : X) → Contains xs x → p x ≡ true → list_any p xs ≡ true
-any_from {X} p [] x c h = absurd (omega (arith, c.1))
-any_from {X} p (y ∷ ys) x c h = elim (contains_cases y ys x c) [
-  | inl e ↦ or_left (p y) (list_any p ys) (ap p e ∙ h)
-  | inr more ↦ or_right (p y) (list_any p ys) (any_from p ys x more h)
-]
-
--- an element that passes
-record Passing {X : Type 0} (p : X → Bool) (xs : List X) (x : X) : Type 0 where
-  contained : Contains xs x
-  passes : p x ≡ true
-
-behind_first : {X : Type 0} (p : X → Bool) (y : X) (ys : List X) (x : X) → Passing p ys x → Passing p (y ∷ ys) x
-behind_first {X} p y ys x h = record { contained = Contains-append_right (y ∷ []) ys x h.contained; passes = h.passes }
-
-at_first : {X : Type 0} (p : X → Bool) (y : X) (ys : List X) → p y ≡ true → Passing p (y ∷ ys) y
-at_first {X} p y ys h = record { contained = Contains-append_left (y ∷ []) ys y (Contains-push [] y); passes = h }
-
-found_in : {X : Type 0} (p : X → Bool) (xs : List X) (x : X) → find p xs ≡ Some x → Passing p xs x
-found_in {X} p [] x e = absurd cc
-found_in {X} p (y ∷ ys) x e = go (λ h. found_in p ys x h) (p y) refl e
-  where
-    go : (find p ys ≡ Some x → Passing p ys x) → (b : Bool) → p y ≡ b → cond b (Some y) (find p ys) ≡ Some x → Passing p (y ∷ ys) x
-    go later true is h = let same : y ≡ x = cc in subst (Passing p (y ∷ ys)) same (at_first p y ys is)
-    go later false is h = behind_first p y ys x (later h)
-
-any_in : {X : Type 0} (p : X → Bool) (xs : List X) → list_any p xs ≡ true → (x : X) × Passing p xs x
-any_in {X} p [] e = absurd cc
-any_in {X} p (y ∷ ys) e = go (λ h. any_in p ys h) (p y) refl e
-  where
-    go : (list_any p ys ≡ true → (x : X) × Passing p ys x) → (b : Bool) → p y ≡ b → (b || list_any p ys) ≡ true → (x : X) × Passing p (y ∷ ys) x
-    go later true is h = (y, at_first p y ys is)
-    go later false is h = let rest = later h in (rest.0, behind_first p y ys rest.0 rest.1)
 
 -- ---- accepted reports
 
@@ -126,67 +82,97 @@ module _ (s : State) (distinct : AreDistinct s.accepted) (name id : List ℕ) wh
 
 -- ---- batches
 
-batch_is : (name : List ℕ) (start : ℕ) (b : Batch) → is_batch name start b ≡ true → b ≡ record { task = name; start = start }
-batch_is name start b h =
-    let parts = and_parts (bytes_eq b.task name) (nat_eq b.start start) h in
-    let task : b.task ≡ name = (bytes_eq-Decides b.task name).0 parts.0 in
-    let from : b.start ≡ start = eqb-true b.start start parts.1 in
-    λ i. record { task = task i; start = from i }
+-- the collected batches as a list
+module _ (collected : List Batch) where
+  batch_is : (name : List ℕ) (span : Span) (b : Batch) → is_batch name span b ≡ true → b ≡ record { task = name; span = span }
+  batch_is name span b h =
+      let parts = and_parts (bytes_eq b.task name) (nat_eq b.span.start span.start && nat_eq b.span.buckets span.buckets) h in
+      let numbers = and_parts (nat_eq b.span.start span.start) (nat_eq b.span.buckets span.buckets) parts.1 in
+      let task : b.task ≡ name = (bytes_eq-Decides b.task name).0 parts.0 in
+      let start : b.span.start ≡ span.start = eqb-true b.span.start span.start numbers.0 in
+      let buckets : b.span.buckets ≡ span.buckets = eqb-true b.span.buckets span.buckets numbers.1 in
+      λ i. record { task = task i; span = record { start = start i; buckets = buckets i } }
 
-pub closed_is : (s : State) (name : List ℕ) (start : ℕ) → Contains s.collected (record { task = name; start = start }) → is_collected s.collected name start ≡ true
-closed_is s name start c =
-    any_from (is_batch name start) s.collected (record { task = name; start = start }) c
-    (and_from _ _ ((bytes_eq-Decides name name).1 refl) (eq-eqb start start refl))
+  -- a batch is itself
+  pub own_batch : (name : List ℕ) (span : Span) → is_batch name span (record { task = name; span = span }) ≡ true
+  own_batch name span =
+      and_from _ _ ((bytes_eq-Decides name name).1 refl) (and_from _ _ (eq-eqb span.start span.start refl) (eq-eqb span.buckets span.buckets refl))
 
-pub closed_not : (s : State) (name : List ℕ) (start : ℕ) → (Contains s.collected (record { task = name; start = start }) → ⊥) → is_collected s.collected name start ≡ false
-closed_not s name start none = go (is_collected s.collected name start) refl
-  where
-    go : (b : Bool) → is_collected s.collected name start ≡ b → b ≡ false
-    go true is =
-        let found = any_in (is_batch name start) s.collected is in
-        absurd (none (subst (Contains s.collected) (batch_is name start found.0 found.1.passes) found.1.contained))
-    go false is = refl
+  pub collected_is : (name : List ℕ) (span : Span) → Contains collected (record { task = name; span = span }) → is_collected collected name span ≡ true
+  collected_is name span c = any_from (is_batch name span) collected (record { task = name; span = span }) c (own_batch name span)
+
+  pub collected_in : (name : List ℕ) (span : Span) → is_collected collected name span ≡ true → Contains collected (record { task = name; span = span })
+  collected_in name span is =
+      let found = any_in (is_batch name span) collected is in
+      subst (Contains collected) (batch_is name span found.0 found.1.passes) found.1.contained
+
+  pub collected_not : (name : List ℕ) (span : Span) → (Contains collected (record { task = name; span = span }) → ⊥) → is_collected collected name span ≡ false
+  collected_not name span none = false_from_ne_true (is_collected collected name span) (λ is. none (collected_in name span is))
+
+closed_is : (s : State) (name : List ℕ) (precision time : ℕ) → IsClosed s name precision time → is_closed s.collected name precision (batch_start time precision) ≡ true
+closed_is s name precision time c =
+    any_from (has_bucket name precision (batch_start time precision)) s.collected c.batch c.collected
+    (and_from _ _ ((bytes_eq-Decides c.batch.task name).1 c.of_task)
+    (any_from (nat_eq (batch_start time precision)) (buckets_of c.batch.span precision) (batch_start time precision) c.holds (eq-eqb (batch_start time precision) (batch_start time precision) refl)))
+
+closed_not : (s : State) (name : List ℕ) (precision time : ℕ) → (IsClosed s name precision time → ⊥) → is_closed s.collected name precision (batch_start time precision) ≡ false
+closed_not s name precision time none =
+    false_from_ne_true (is_closed s.collected name precision (batch_start time precision)) (λ is.
+    let bucket = batch_start time precision in
+    let found = any_in (has_bucket name precision bucket) s.collected is in
+    let b : Batch = found.0 in
+    let parts = and_parts (bytes_eq b.task name) (holds_bucket b.span precision bucket) found.1.passes in
+    let held = any_in (nat_eq bucket) (buckets_of b.span precision) parts.1 in
+    let same : held.0 ≡ bucket = sym (eqb-true bucket held.0 held.1.passes) in
+    none (record {
+      batch = b;
+      collected = found.1.contained;
+      of_task = (bytes_eq-Decides b.task name).0 parts.0;
+      holds = subst (Contains (buckets_of b.span precision)) same held.1.contained;
+    }))
 
 -- ---- the judgement
 
 module _ (s : State) (k : ℕ) (t : PlainTask) (r : Report) (distinct : AreDistinct s.accepted) where
-  -- what follows from the four tests
-  abbrev after : Bool → Bool → Bool → Bool → Outcome
-  after again early known closed =
-      after_judgement s k r (cond again Again (cond early (Barred cause.Early) (cond known (Barred cause.Conflict) (cond closed (Barred cause.Collected) Added))))
+  -- what follows from the five tests
+  abbrev after : Bool → Bool → Bool → Bool → Bool → Outcome
+  after again early expired known closed = after_judgement s k r (by_tests again early expired known closed)
 
   abbrev known : Option (List ℕ)
   known = known_in s.accepted r.name r.id
 
-  abbrev start : ℕ
-  start = batch_start r.time t.precision
-
   abbrev again_test : Bool
   again_test = is_known_as known (report.spell r)
 
-  abbrev closed_test : Bool
-  closed_test = is_collected s.collected r.name start
+  abbrev expired_test : Bool
+  expired_test = is_expired s.moment t.expires
 
-  -- a report that is neither known nor early goes by its batch
-  unbarred : ((bytes : List ℕ) → IsKnown s r.name r.id bytes → ⊥) → is_early s.moment r.time ≡ false → (b : Bool) → closed_test ≡ b → offered s k t r ≡ after false false false b
-  unbarred none not_early b is =
+  abbrev closed_test : Bool
+  closed_test = is_closed s.collected r.name t.precision (batch_start r.time t.precision)
+
+  -- a report that is neither known nor out of time goes by its bucket
+  unbarred : ((bytes : List ℕ) → IsKnown s r.name r.id bytes → ⊥) → IsInTime s t r → (b : Bool) → closed_test ≡ b → offered s k t r ≡ after false false false false b
+  unbarred none in_time b is =
       let again : again_test ≡ false = other_bytes s distinct r.name r.id (report.spell r) (none (report.spell r)) in
       let unknown : is_some known ≡ false = ap (λ (o : Option (List ℕ)). is_some o) (unknown_bytes s distinct r.name r.id none) in
-      λ i. after (again i) (not_early i) (unknown i) (is i)
+      λ i. after (again i) (in_time.not_early i) (in_time.not_expired i) (unknown i) (is i)
 
   pub offered-judged : IsJudged s k t r (offered s k t r)
   offered-judged = record {
     again = λ h.
         let is : again_test ≡ true = ap (λ (o : Option (List ℕ)). is_known_as o (report.spell r)) (known_bytes s distinct r.name r.id (report.spell r) h)
         ∙ (bytes_eq-Decides (report.spell r) (report.spell r)).1 refl in
-        ap (λ (b : Bool). after b (is_early s.moment r.time) (is_some known) closed_test) is;
+        ap (λ (b : Bool). after b (is_early s.moment r.time) expired_test (is_some known) closed_test) is;
     early = λ none h.
         let again : again_test ≡ false = other_bytes s distinct r.name r.id (report.spell r) none in
-        λ i. after (again i) (h i) (is_some known) closed_test;
-    conflict = λ none not_early bytes h.
+        λ i. after (again i) (h i) expired_test (is_some known) closed_test;
+    expired = λ none not_early h.
+        let again : again_test ≡ false = other_bytes s distinct r.name r.id (report.spell r) none in
+        λ i. after (again i) (not_early i) (h i) (is_some known) closed_test;
+    conflict = λ none in_time bytes h.
         let again : again_test ≡ false = other_bytes s distinct r.name r.id (report.spell r) none in
         let is_known : is_some known ≡ true = ap (λ (o : Option (List ℕ)). is_some o) (known_bytes s distinct r.name r.id bytes h) in
-        λ i. after (again i) (not_early i) (is_known i) closed_test;
-    collected = λ none not_early h. unbarred none not_early true (closed_is s r.name start h);
-    else_accepted = λ none not_early not_closed. unbarred none not_early false (closed_not s r.name start not_closed);
+        λ i. after (again i) (in_time.not_early i) (in_time.not_expired i) (is_known i) closed_test;
+    collected = λ none in_time h. unbarred none in_time true (closed_is s r.name t.precision r.time h);
+    else_accepted = λ none in_time not_closed. unbarred none in_time false (closed_not s r.name t.precision r.time not_closed);
   }

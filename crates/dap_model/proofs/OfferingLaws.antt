@@ -1,5 +1,5 @@
 -- Which lines offer a report.
-use Rattle.std.proofs.Common.{◌≡◌, ◌⊎◌, ℕ, List, [], ◌∷◌, ◌++◌, inl, inr, filter_map, Option, Some, None, Result, Ok, Err, refl, sym, ap, ◌∙◌}
+use Rattle.std.proofs.Common.{◌≡◌, ℕ, List, [], ◌∷◌, ◌++◌, filter_map, Option, Some, None, Result, Ok, Err, refl, sym, ap, ◌∙◌}
 use Rattle.std.specs.List.{cons_option, find}
 use Rattle.std.specs.Option.{option_and_then, option_map_or, option_to_list}
 use Rattle.std.specs.Result.{result_ok}
@@ -13,14 +13,13 @@ use Rattle.dap_tasks.specs.Task.{PlainTask, has_name}
 use Rattle.dap_tasks.specs.declared.cause.Cause.TheVariants as cause
 use Rattle.dap_script.specs.declared.line.Line.{Line}
 use Rattle.dap_script.specs.declared.line.Line.TheVariants as line
-use Rattle.dap_model.proofs.ChangeLaws.{changes_named}
 use Rattle.dap_model.proofs.NameLemmas.{name_in-report}
 use Rattle.dap_model.proofs.UploadLaws.{first_cause, measure-first_cause}
-use Rattle.dap_model.specs.Changes.{AddsBatch}
 use Rattle.dap_model.specs.Limits.{report_offered, reports_offered}
 use Rattle.dap_model.specs.Offering.{Brings, CountsWhatIsJudged}
 use Rattle.dap_model.specs.State.{State, task_named}
-use Rattle.dap_model.specs.Step.{measure_of, name_in, offered, refused, report_in, step, upload_named, upload_to}
+use Rattle.dap_model.specs.Step.{measure_of, name_in, offered, refused, report_in, upload_named, upload_to}
+use Rattle.dap_model.proofs.ChangeLaws.{collect_accepts}
 
 module _ (f : Kind → Functions) (s : State) (k : ℕ) where
   -- ---- measurements
@@ -91,24 +90,13 @@ module _ (f : Kind → Functions) (s : State) (k : ℕ) where
       nothing = λ e. upload_nothing (name_in bytes) e;
     }
 
-  -- ---- collections
-
-  collect_accepts : (name : List ℕ) (start : ℕ) → (step f s k (line.Collect name start)).0.accepted ≡ s.accepted
-  collect_accepts name start = go (changes_named f s k (line.Collect name start))
-    where
-      go : ((step f s k (line.Collect name start)).0 ≡ s) ⊎ AddsBatch s (step f s k (line.Collect name start)).0 name start → (step f s k (line.Collect name start)).0.accepted ≡ s.accepted
-      go (inl same) = ap (λ (x : State). x.accepted) same
-      go (inr adds) = ap (λ (x : State). x.accepted) adds
-
-  -- ---- the law
-
   pub counts-judged : (l : Line) → CountsWhatIsJudged f s k l
   counts-judged (line.Measure name id time value seed) = measure_counts name id time value seed
   counts-judged (line.Upload bytes) = upload_counts bytes
   counts-judged line.Blank = record { judged = λ t r b. absurd b; counts = λ t r b. absurd b; only = λ r e. absurd cc; nothing = λ e. refl }
-  counts-judged (line.Task name kind min precision) = record { judged = λ t r b. absurd b; counts = λ t r b. absurd b; only = λ r e. absurd cc; nothing = λ e. refl }
+  counts-judged (line.Task name kind min precision expires) = record { judged = λ t r b. absurd b; counts = λ t r b. absurd b; only = λ r e. absurd cc; nothing = λ e. refl }
   counts-judged (line.Now moment) = record { judged = λ t r b. absurd b; counts = λ t r b. absurd b; only = λ r e. absurd cc; nothing = λ e. refl }
-  counts-judged (line.Collect name start) = record { judged = λ t r b. absurd b; counts = λ t r b. absurd b; only = λ r e. absurd cc; nothing = λ e. collect_accepts name start }
+  counts-judged (line.Collect name span) = record { judged = λ t r b. absurd b; counts = λ t r b. absurd b; only = λ r e. absurd cc; nothing = λ e. collect_accepts f s k name span }
   counts-judged (line.Restart node) = record { judged = λ t r b. absurd b; counts = λ t r b. absurd b; only = λ r e. absurd cc; nothing = λ e. refl }
 
 pub offered-in_order : (f : Kind → Functions) (tasks : List PlainTask) (lines : List Line) → reports_offered f tasks lines ≡ filter_map (report_offered f tasks) lines

@@ -1,5 +1,5 @@
 -- A report is accepted at most once.
-use Rattle.std.proofs.Common.{◌≡◌, ℕ, ◌+◌, ◌%◌, not, List, [], ◌∷◌, ◌++◌, Bool, cond, true, false, ◌||◌, nat_eq, is_some, Option, Some, None, refl, sym, ◌∙◌}
+use Rattle.std.proofs.Common.{◌≡◌, ℕ, ◌+◌, List, [], ◌∷◌, ◌++◌, cond, true, false, ◌||◌, is_some, Option, Some, None, refl, sym, ◌∙◌, subst}
 use Rattle.std.proofs.lemmas.Bool.{or_from, or_parts}
 use Rattle.std.proofs.lemmas.List.Folds.{list_any-append}
 use Rattle.std.specs.List.{find, list_any}
@@ -11,7 +11,7 @@ use Rattle.dap_seal.specs.Reports.{honest_report}
 use Rattle.dap_batch.specs.Group.{batch_start}
 use Rattle.vdaf_api.specs.declared.kind.Kind.{Kind}
 use Rattle.dap_tasks.specs.DistinctLaws.{bytes_eq-turned}
-use Rattle.dap_tasks.specs.Judged.{is_early, is_known_as}
+use Rattle.dap_tasks.specs.Judged.{is_early, is_known_as, is_expired}
 use Rattle.dap_tasks.specs.Task.{PlainTask}
 use Rattle.dap_tasks.specs.declared.cause.Cause.{Cause}
 use Rattle.dap_tasks.specs.declared.cause.Cause.TheVariants as cause
@@ -19,12 +19,12 @@ use Rattle.dap_tasks.specs.declared.cause.Judged.{Judged}
 use Rattle.dap_tasks.specs.declared.cause.Judged.TheVariants.{Again, Barred, Added}
 use Rattle.dap_script.specs.declared.line.Line.{Line}
 use Rattle.dap_script.specs.declared.line.Line.TheVariants as line
-use Rattle.dap_model.proofs.ChangeLaws.{by_task, judgement_of}
+use Rattle.dap_model.proofs.ChangeLaws.{by_task, collect_accepts}
 use Rattle.dap_model.specs.Changes.{AreDistinct}
 use Rattle.dap_model.specs.Run.{state_after}
-use Rattle.dap_model.specs.State.{Batch, State, opening, has_key, is_collected, known_in}
-use Rattle.dap_model.specs.Step.{Outcome, after_judgement, collect_of, is_due, measure_of, name_in, offered, refused, report_in, step, upload_named, upload_to}
-use Rattle.dap_model.specs.declared.printed.Printed.{Printed}
+use Rattle.dap_model.specs.State.{State, opening, has_key, known_in, is_closed}
+use Rattle.dap_model.specs.Step.{Outcome, after_judgement, measure_of, name_in, offered, refused, report_in, step, upload_named, upload_to, judgement}
+use Rattle.dap_model.proofs.TestLemmas.{added_by_tests}
 
 has_key-turned : (a b : Report) → has_key a.name a.id b ≡ has_key b.name b.id a
 has_key-turned a b = rw (bytes_eq-turned b.name a.name, bytes_eq-turned b.id a.id) refl
@@ -44,27 +44,21 @@ is_some-known_in (a ∷ more) name id =
       | false ↦ is_some-known_in more name id
     ]
 
-tests_add : (again early known closed : Bool)
-    → cond again Again (cond early (Barred cause.Early) (cond known (Barred cause.Conflict) (cond closed (Barred cause.Collected) Added))) ≡ Added → known ≡ false
-tests_add true early known closed e = cc e
-tests_add false true known closed e = cc e
-tests_add false false true closed e = cc e
-tests_add false false false closed e = refl
-
-judgement_keeps : (s : State) (k : ℕ) (task : PlainTask) (new : Report) (judgement : Judged) → judgement_of s task new ≡ judgement
-    → AreDistinct s.accepted → AreDistinct (after_judgement s k new judgement).0.accepted
+judgement_keeps : (s : State) (k : ℕ) (task : PlainTask) (new : Report) (j : Judged) → judgement s task new ≡ j
+    → AreDistinct s.accepted → AreDistinct (after_judgement s k new j).0.accepted
 judgement_keeps s k task new Again e d = d
 judgement_keeps s k task new (Barred why) e d = d
 judgement_keeps s k task new Added e d =
     let known = known_in s.accepted new.name new.id in
-    let closed = is_collected s.collected new.name (batch_start new.time task.precision) in
+    let closed = is_closed s.collected new.name task.precision (batch_start new.time task.precision) in
     distinct_after s.accepted new d
-    (sym (is_some-known_in s.accepted new.name new.id) ∙ tests_add (is_known_as known (report.spell new)) (is_early s.moment new.time) (is_some known) closed e)
+    (sym (is_some-known_in s.accepted new.name new.id)
+    ∙ (added_by_tests (is_known_as known (report.spell new)) (is_early s.moment new.time) (is_expired s.moment task.expires) (is_some known) closed e).0)
 
 offer_keeps : (s : State) (k : ℕ) (task : PlainTask) (why : Cause) (o : Option Report) → AreDistinct s.accepted
     → AreDistinct (option_map_or (offered s k task) o (refused s k why)).0.accepted
 offer_keeps s k task why None d = d
-offer_keeps s k task why (Some new) d = judgement_keeps s k task new (judgement_of s task new) refl d
+offer_keeps s k task why (Some new) d = judgement_keeps s k task new (judgement s task new) refl d
 
 upload_keeps : (s : State) (k : ℕ) (bytes : List ℕ) (o : Option (List ℕ)) → AreDistinct s.accepted
     → AreDistinct (option_map_or (upload_named s k bytes) o (refused s k cause.Form)).0.accepted
@@ -73,26 +67,16 @@ upload_keeps s k bytes (Some name) d =
     let P : Outcome → Type 0 = λ o. AreDistinct o.0.accepted in
     by_task P (upload_to s k bytes) (refused s k cause.Task) name s.tasks d (λ task e. offer_keeps s k task cause.Form (report_in bytes) d)
 
-tests_keep : (s : State) (collected : List Batch) (unaligned due : Bool) (refusal collection small : List Printed) → AreDistinct s.accepted
-    → let after : Outcome = cond unaligned (s, refusal) (cond due (record s { collected = collected }, collection) (s, small)) in
-    AreDistinct after.0.accepted
-tests_keep s collected true due refusal collection small d = d
-tests_keep s collected false true refusal collection small d = d
-tests_keep s collected false false refusal collection small d = d
-
 pub distinct_kept : (f : Kind → Functions) (s : State) (k : ℕ) (l : Line) → AreDistinct s.accepted → AreDistinct (step f s k l).0.accepted
 distinct_kept f s k line.Blank d = d
-distinct_kept f s k (line.Task name kind min precision) d = d
+distinct_kept f s k (line.Task name kind min precision expires) d = d
 distinct_kept f s k (line.Now t) d = d
 distinct_kept f s k (line.Measure name id time value seed) d =
     let P : Outcome → Type 0 = λ o. AreDistinct o.0.accepted in
     by_task P (measure_of f s k id time value seed) (refused s k cause.Task) name s.tasks d
     (λ task e. offer_keeps s k task cause.Value (honest_report (f task.kind) task id time value seed) d)
 distinct_kept f s k (line.Upload bytes) d = upload_keeps s k bytes (name_in bytes) d
-distinct_kept f s k (line.Collect name start) d =
-    let P : Outcome → Type 0 = λ o. AreDistinct o.0.accepted in
-    by_task P (collect_of f s k start) (refused s k cause.Task) name s.tasks d
-    (λ task e. tests_keep s _ (not (nat_eq (start % task.precision) 0)) (is_due f s task start) _ _ _ d)
+distinct_kept f s k (line.Collect name span) d = subst AreDistinct (sym (collect_accepts f s k name span)) d
 distinct_kept f s k (line.Restart node) d = d
 
 run_distinct : (f : Kind → Functions) (s : State) (k : ℕ) (lines : List Line) → AreDistinct s.accepted → AreDistinct (state_after f s k lines).accepted

@@ -1,9 +1,9 @@
 -- A batch that was collected stays as it is.
-use Rattle.std.proofs.Common.{◌≡◌, ◌⊎◌, ℕ, ◌+◌, ◌%◌, List, [], ◌∷◌, ◌++◌, length, nat_eq, not, is_none, is_some, Bool, cond, true, false, ◌&&◌, ◌||◌, Option, Some, None, Result, Ok, Err, refl, sym, ap, subst, ◌∙◌, inl, inr}
-use Rattle.std.proofs.lemmas.Bool.{and_from, and_parts, both_ways, eq-eqb, eqb-true, or_left}
+use Rattle.std.proofs.Common.{◌≡◌, ◌⊎◌, ℕ, ◌+◌, List, [], ◌∷◌, ◌++◌, length, nat_eq, is_none, is_some, Bool, cond, true, false, ◌&&◌, Option, Some, None, Result, Ok, Err, refl, sym, ap, subst, ◌∙◌, inl, inr}
+use Rattle.std.proofs.lemmas.Bool.{and_from, and_left, and_right, both_ways, false_from_ne_true, or_left}
 use Rattle.std.proofs.lemmas.List.Folds.{list_any-append}
 use Rattle.std.proofs.lemmas.Slice.Eq.{bytes_eq-Decides}
-use Rattle.std.specs.List.{find}
+use Rattle.std.specs.List.{find, All, Contains, list_any}
 use Rattle.std.specs.Option.{option_map, option_map_or, option_to_list}
 use Rattle.std.specs.Result.{result_ok}
 use Rattle.std.specs.Str.{bytes_eq}
@@ -16,85 +16,109 @@ use Rattle.dap_messages.specs.Grammar.{whole}
 use Rattle.dap_messages.specs.Messages.{report}
 use Rattle.dap_messages.specs.declared.report.Report.{Report}
 use Rattle.dap_seal.specs.Reports.{report_of}
-use Rattle.dap_tasks.specs.Judged.{is_early, is_known_as}
+use Rattle.dap_tasks.specs.Judged.{is_early, is_known_as, is_expired}
 use Rattle.dap_tasks.specs.Task.{PlainTask, has_name}
 use Rattle.dap_tasks.specs.declared.cause.Cause.TheVariants as cause
 use Rattle.dap_tasks.specs.declared.cause.Judged.{Judged}
 use Rattle.dap_tasks.specs.declared.cause.Judged.TheVariants.{Again, Barred, Added}
 use Rattle.dap_script.specs.declared.line.Line.{Line}
 use Rattle.dap_script.specs.declared.line.Line.TheVariants as line
-use Rattle.dap_model.proofs.ChangeLaws.{changes_named, judgement_of}
+use Rattle.dap_model.proofs.ChangeLaws.{changes_named}
 use Rattle.dap_model.proofs.ChangeLaws.{found_name}
 use Rattle.dap_model.proofs.NameLemmas.{name_in-report}
 use Rattle.dap_model.specs.Changes.{AddsBatch}
 use Rattle.dap_model.specs.Run.{state_after}
-use Rattle.dap_model.specs.State.{Batch, State, content_of, contents_in, in_batch, is_batch, is_collected, known_in, rejected_in}
-use Rattle.dap_model.specs.Step.{Outcome, after_judgement, collect_of, collection_of, is_due, measure_of, name_in, offered, refused, step, upload_named, upload_to, with_batch}
+use Rattle.dap_model.specs.State.{Batch, State, content_of, contents_in, is_batch, is_collected, known_in, rejected_in, batch_contents, batch_rejected, earliest, has_bucket, in_bucket, is_closed, sharing, with_collected}
+use Rattle.dap_model.specs.Step.{Outcome, after_judgement, collect_of, collection_of, measure_of, name_in, offered, refused, step, upload_named, upload_to, judgement, reports_with_content}
 use Rattle.dap_model.specs.declared.printed.Printed.{Printed}
-use Rattle.dap_model.specs.declared.printed.Printed.TheVariants.{Collected, Small}
+use Rattle.dap_model.specs.declared.printed.Printed.TheVariants.{Collected}
+use Rattle.std.proofs.lemmas.List.Elements.{All-weaker, Contains-push}
+use Rattle.dap_model.proofs.TestLemmas.{added_by_tests}
+use Rattle.dap_bytes.specs.Spans.{buckets_of, holds_bucket, passes_start}
+use Rattle.dap_model.proofs.OfferLaws.{collected_in, collected_is}
+use Rattle.dap_model.specs.BatchLaws.{flat_map-agree, none_pass}
+use Rattle.std.specs.Prelude.{nat_le}
+use Rattle.dap_model.proofs.ListLemmas.{any_from, sum_by-agree}
+use Rattle.dap_model.proofs.CollectLaws.{tests}
+use Rattle.dap_bytes.specs.declared.span.Span.{Span}
 
--- what is added was of a batch that isn't collected
-added_open : (again early known closed : Bool)
-    → cond again Again (cond early (Barred cause.Early) (cond known (Barred cause.Conflict) (cond closed (Barred cause.Collected) Added))) ≡ Added → closed ≡ false
-added_open true early known closed e = cc e
-added_open false true known closed e = cc e
-added_open false false true closed e = cc e
-added_open false false false true e = cc e
-added_open false false false false e = refl
+-- the accepted reports with one more, which lies in none of the buckets
+module _ (f : Kind → Functions) (task : PlainTask) where
+  contents-push : (start : ℕ) (reports : List Report) (r : Report) → in_bucket task start r ≡ false → contents_in f task start (reports ++ r ∷ []) ≡ contents_in f task start reports
+  contents-push start [] r e = ap (λ b. cond b (option_to_list (content_of f task r)) [] ++ []) e
+  contents-push start (first ∷ more) r e = ap (λ c. cond (in_bucket task start first) (option_to_list (content_of f task first)) [] ++ c) (contents-push start more r e)
 
-module _ (f : Kind → Functions) (task : PlainTask) (start : ℕ) where
-  contents-push : (reports : List Report) (r : Report) → in_batch task start r ≡ false → contents_in f task start (reports ++ r ∷ []) ≡ contents_in f task start reports
-  contents-push [] r e = ap (λ b. cond b (option_to_list (content_of f task r)) [] ++ []) e
-  contents-push (first ∷ more) r e = ap (λ c. cond (in_batch task start first) (option_to_list (content_of f task first)) [] ++ c) (contents-push more r e)
+  rejected-push : (start : ℕ) (reports : List Report) (r : Report) → in_bucket task start r ≡ false → rejected_in f task start (reports ++ r ∷ []) ≡ rejected_in f task start reports
+  rejected-push start [] r e = ap (λ b. cond (b && is_none (content_of f task r)) 1 0 + 0) e
+  rejected-push start (first ∷ more) r e = ap (λ (n : ℕ). cond (in_bucket task start first && is_none (content_of f task first)) 1 0 + n) (rejected-push start more r e)
 
-  rejected-push : (reports : List Report) (r : Report) → in_batch task start r ≡ false → rejected_in f task start (reports ++ r ∷ []) ≡ rejected_in f task start reports
-  rejected-push [] r e = ap (λ b. cond (b && is_none (content_of f task r)) 1 0 + 0) e
-  rejected-push (first ∷ more) r e = ap (λ (n : ℕ). cond (in_batch task start first && is_none (content_of f task first)) 1 0 + n) (rejected-push more r e)
+module _ (f : Kind → Functions) (task : PlainTask) (span : Span) where
+  abbrev IsOutside : Report → Type 0
+  IsOutside r = All (λ start. in_bucket task start r ≡ false) (buckets_of span task.precision)
+
+  batch_contents-push : (reports : List Report) (r : Report) → IsOutside r → batch_contents f task span (reports ++ r ∷ []) ≡ batch_contents f task span reports
+  batch_contents-push reports r out =
+      flat_map-agree (λ start. contents_in f task start (reports ++ r ∷ [])) (λ start. contents_in f task start reports) (buckets_of span task.precision)
+      (All-weaker (λ start. in_bucket task start r ≡ false) (λ start. contents_in f task start (reports ++ r ∷ []) ≡ contents_in f task start reports)
+      (λ start e. contents-push f task start reports r e) (buckets_of span task.precision) out)
+
+  batch_rejected-push : (reports : List Report) (r : Report) → IsOutside r → batch_rejected f task span (reports ++ r ∷ []) ≡ batch_rejected f task span reports
+  batch_rejected-push reports r out =
+      sum_by-agree (λ start. rejected_in f task start (reports ++ r ∷ [])) (λ start. rejected_in f task start reports) (buckets_of span task.precision)
+      (All-weaker (λ start. in_bucket task start r ≡ false) (λ start. rejected_in f task start (reports ++ r ∷ []) ≡ rejected_in f task start reports)
+      (λ start e. rejected-push f task start reports r e) (buckets_of span task.precision) out)
 
   module _ (tasks : List PlainTask) (known : find (has_name task.name) tasks ≡ Some task) (contents : List (List ℕ)) (rejected : ℕ) where
     -- the batch is collected, with these contents and so many rejected reports
     record Stays (s : State) : Type 0 where
       tasks_are : s.tasks ≡ tasks
-      closed : is_collected s.collected task.name start ≡ true
-      contents_are : contents_in f task start s.accepted ≡ contents
-      rejected_are : rejected_in f task start s.accepted ≡ rejected
+      closed : is_collected s.collected task.name span ≡ true
+      contents_are : batch_contents f task span s.accepted ≡ contents
+      rejected_are : batch_rejected f task span s.accepted ≡ rejected
 
-    -- no report is accepted in the batch
+    -- no report is accepted in a bucket of the batch
     outside : (s : State) (t : PlainTask) (r : Report) → Stays s → find (has_name r.name) s.tasks ≡ Some t
-        → is_collected s.collected r.name (batch_start r.time t.precision) ≡ false → in_batch task start r ≡ false
-    outside s t r h found open_ = go (in_batch task start r) refl
+        → is_closed s.collected r.name t.precision (batch_start r.time t.precision) ≡ false → IsOutside r
+    outside s t r h found open_ = go (bytes_eq r.name task.name) refl
       where
-        go : (b : Bool) → in_batch task start r ≡ b → b ≡ false
-        go false e = refl
-        go true e =
-            let parts = and_parts (bytes_eq r.name task.name) (nat_eq (batch_start r.time task.precision) start) e in
-            let named : r.name ≡ task.name = (bytes_eq-Decides r.name task.name).0 parts.0 in
-            let starts : batch_start r.time task.precision ≡ start = eqb-true (batch_start r.time task.precision) start parts.1 in
+        bucket : ℕ
+        bucket = batch_start r.time task.precision
+
+        held : r.name ≡ task.name → holds_bucket span task.precision bucket ≡ false
+        held named =
             let both : Some t ≡ Some task = sym found ∙ ap (λ (n : List ℕ). find (has_name n) s.tasks) named ∙ ap (find (has_name task.name)) h.tasks_are ∙ known in
             let same : t ≡ task = cc in
-            let there : is_collected s.collected r.name (batch_start r.time t.precision) ≡ is_collected s.collected task.name start =
-            ap (λ (n : List ℕ). is_collected s.collected n (batch_start r.time t.precision)) named
-            ∙ ap (λ (p : PlainTask). is_collected s.collected task.name (batch_start r.time p.precision)) same
-            ∙ ap (is_collected s.collected task.name) starts in
-            absurd (both_ways (is_collected s.collected task.name start) (sym there ∙ open_) h.closed)
+            let test : Batch → Bool = has_bucket r.name t.precision (batch_start r.time t.precision) in
+            let closed : Contains s.collected (record { task = task.name; span = span }) = collected_in s.collected task.name span h.closed in
+            false_from_ne_true (holds_bucket span task.precision bucket) (λ is.
+            let passes : test (record { task = task.name; span = span }) ≡ true =
+            and_from _ _ ((bytes_eq-Decides task.name r.name).1 (sym named)) (ap (λ (p : PlainTask). holds_bucket span p.precision (batch_start r.time p.precision)) same ∙ is) in
+            both_ways (list_any test s.collected) open_ (any_from test s.collected (record { task = task.name; span = span }) closed passes))
+
+        go : (b : Bool) → bytes_eq r.name task.name ≡ b → IsOutside r
+        go false e = λ i d within. and_left _ _ e
+        go true e =
+            All-weaker (λ start. nat_eq bucket start ≡ false) (λ start. in_bucket task start r ≡ false) (λ start apart. and_right _ _ apart) (buckets_of span task.precision)
+            (none_pass (nat_eq bucket) (buckets_of span task.precision) (held ((bytes_eq-Decides r.name task.name).0 e)))
 
     judgement_stays : (s : State) (k : ℕ) (t : PlainTask) (r : Report) → find (has_name r.name) s.tasks ≡ Some t → Stays s
-        → (j : Judged) → judgement_of s t r ≡ j → Stays (after_judgement s k r j).0
+        → (j : Judged) → judgement s t r ≡ j → Stays (after_judgement s k r j).0
     judgement_stays s k t r found h Again e = h
     judgement_stays s k t r found h (Barred why) e = h
     judgement_stays s k t r found h Added e =
-        let open_ : is_collected s.collected r.name (batch_start r.time t.precision) ≡ false =
-        added_open (is_known_as (known_in s.accepted r.name r.id) (report.spell r)) (is_early s.moment r.time) (is_some (known_in s.accepted r.name r.id)) (is_collected s.collected r.name (batch_start r.time t.precision)) e in
-        let out : in_batch task start r ≡ false = outside s t r h found open_ in
+        let known : Option (List ℕ) = known_in s.accepted r.name r.id in
+        let closed : Bool = is_closed s.collected r.name t.precision (batch_start r.time t.precision) in
+        let open_ = added_by_tests (is_known_as known (report.spell r)) (is_early s.moment r.time) (is_expired s.moment t.expires) (is_some known) closed e in
+        let out : IsOutside r = outside s t r h found open_.1 in
         record {
           tasks_are = h.tasks_are;
           closed = h.closed;
-          contents_are = contents-push s.accepted r out ∙ h.contents_are;
-          rejected_are = rejected-push s.accepted r out ∙ h.rejected_are;
+          contents_are = batch_contents-push s.accepted r out ∙ h.contents_are;
+          rejected_are = batch_rejected-push s.accepted r out ∙ h.rejected_are;
         }
 
     offer_stays : (s : State) (k : ℕ) (t : PlainTask) (r : Report) → find (has_name r.name) s.tasks ≡ Some t → Stays s → Stays (offered s k t r).0
-    offer_stays s k t r found h = judgement_stays s k t r found h (judgement_of s t r) refl
+    offer_stays s k t r found h = judgement_stays s k t r found h (judgement s t r) refl
 
     measure_stays : (s : State) (k : ℕ) (name id : List ℕ) (time value : ℕ) (seed : List ℕ) → Stays s → Stays (step f s k (line.Measure name id time value seed)).0
     measure_stays s k name id time value seed h = go (find (has_name name) s.tasks) refl
@@ -129,28 +153,25 @@ module _ (f : Kind → Functions) (task : PlainTask) (start : ℕ) where
         named None e = h
         named (Some name) e = found_so name e (find (has_name name) s.tasks) refl
 
-    collect_stays : (s : State) (k : ℕ) (name : List ℕ) (from : ℕ) → Stays s → Stays (step f s k (line.Collect name from)).0
-    collect_stays s k name from h = go (changes_named f s k (line.Collect name from))
+    collect_stays : (s : State) (k : ℕ) (name : List ℕ) (other : Span) → Stays s → Stays (step f s k (line.Collect name other)).0
+    collect_stays s k name other h = go (changes_named f s k (line.Collect name other))
       where
-        after : State
-        after = (step f s k (line.Collect name from)).0
-
-        go : ((step f s k (line.Collect name from)).0 ≡ s) ⊎ AddsBatch s (step f s k (line.Collect name from)).0 name from → Stays (step f s k (line.Collect name from)).0
+        go : ((step f s k (line.Collect name other)).0 ≡ s) ⊎ AddsBatch s (step f s k (line.Collect name other)).0 name other → Stays (step f s k (line.Collect name other)).0
         go (inl same) = subst Stays (sym same) h
         go (inr adds) = subst Stays (sym adds) (record {
           tasks_are = h.tasks_are;
-          closed = list_any-append (is_batch task.name start) s.collected (record { task = name; start = from } ∷ []) ∙ or_left _ _ h.closed;
+          closed = list_any-append (is_batch task.name span) s.collected (record { task = name; span = other } ∷ []) ∙ or_left _ _ h.closed;
           contents_are = h.contents_are;
           rejected_are = h.rejected_are;
         })
 
     step_stays : (s : State) (k : ℕ) (l : Line) → Stays s → Stays (step f s k l).0
     step_stays s k line.Blank h = h
-    step_stays s k (line.Task name kind min precision) h = h
+    step_stays s k (line.Task name kind min precision expires) h = h
     step_stays s k (line.Now t) h = record { tasks_are = h.tasks_are; closed = h.closed; contents_are = h.contents_are; rejected_are = h.rejected_are }
     step_stays s k (line.Measure name id time value seed) h = measure_stays s k name id time value seed h
     step_stays s k (line.Upload bytes) h = upload_stays s k bytes h
-    step_stays s k (line.Collect name from) h = collect_stays s k name from h
+    step_stays s k (line.Collect name other) h = collect_stays s k name other h
     step_stays s k (line.Restart node) h = h
 
     run_stays : (s : State) (k : ℕ) (lines : List Line) → Stays s → Stays (state_after f s k lines)
@@ -159,61 +180,54 @@ module _ (f : Kind → Functions) (task : PlainTask) (start : ℕ) where
 
     -- what a collection of the batch prints
     abbrev line_of : List (List ℕ) → ℕ → Printed
-    line_of c n = Collected task.name start (record { reports = length c; rejected = n; answer = (f task.kind).answer (total_numbers (f task.kind).space c) })
+    line_of c n = Collected task.name span (record { reports = length c; rejected = n; answer = (f task.kind).answer (total_numbers (f task.kind).space c) })
 
-    abbrev tested : State → ℕ → Bool → Bool → Printed → Outcome
-    tested s k aligned due printed =
-        cond (not aligned) (refused s k cause.Start) (cond due (record s { collected = with_batch s.collected task.name start }, printed ∷ [])
-        (s, Small task.name start (length (contents_in f task start s.accepted)) ∷ []))
-
-    collection_stays : (s : State) (k : ℕ) → Stays s → nat_eq (start % task.precision) 0 ≡ true → (step f s k (line.Collect task.name start)).1 ≡ line_of contents rejected ∷ []
-    collection_stays s k h aligned =
-        let due : is_due f s task start ≡ true = or_left _ _ h.closed in
+    collection_stays : (s : State) (k : ℕ) → Stays s → passes_start span task.precision ≡ true → (step f s k (line.Collect task.name span)).1 ≡ line_of contents rejected ∷ []
+    collection_stays s k h passes =
         let found : find (has_name task.name) s.tasks ≡ Some task = ap (find (has_name task.name)) h.tasks_are ∙ known in
-        ap (λ (o : Option PlainTask). (option_map_or (collect_of f s k start) o (refused s k cause.Task)).1) found
-        ∙ ap (λ b. (tested s k b (is_due f s task start) (collection_of f s task start)).1) aligned
-        ∙ ap (λ b. (tested s k true b (collection_of f s task start)).1) due
-        ∙ ap (λ c. line_of c (rejected_in f task start s.accepted) ∷ []) h.contents_are
-        ∙ ap (λ (n : ℕ). line_of contents n ∷ []) h.rejected_are
+        let other : Option Span = earliest (sharing task span s.collected) in
+        let enough : Bool = nat_le task.min (reports_with_content f s task span) in
+        ap (λ (o : Option PlainTask). (option_map_or (collect_of f s k span) o (refused s k cause.Task)).1) found
+        ∙ (λ i. (tests f s k span task (passes i) (h.closed i) other enough).1)
+        ∙ (λ i. line_of (h.contents_are i) (h.rejected_are i) ∷ [])
 
--- a batch that is collected is among the collected ones
-with_batch-closed : (collected : List Batch) (name : List ℕ) (start : ℕ) → is_collected (with_batch collected name start) name start ≡ true
-with_batch-closed collected name start = go (is_collected collected name start) refl
+pub collections-repeated : (f : Kind → Functions) (s : State) (k later : ℕ) (name : List ℕ) (span : Span) (what : Counts) (lines : List Line)
+    → (step f s k (line.Collect name span)).1 ≡ Collected name span what ∷ []
+    → (step f (state_after f (step f s k (line.Collect name span)).0 (k + 1) lines) later (line.Collect name span)).1 ≡ Collected name span what ∷ []
+collections-repeated f s k later name span what lines e = found (find (has_name name) s.tasks) refl e
   where
-    own : is_batch name start (record { task = name; start = start }) ≡ true
-    own = and_from _ _ ((bytes_eq-Decides name name).1 refl) (eq-eqb start start refl)
+    Repeats : Outcome → Type 0
+    Repeats o = o.1 ≡ Collected name span what ∷ [] → (step f (state_after f o.0 (k + 1) lines) later (line.Collect name span)).1 ≡ Collected name span what ∷ []
 
-    go : (b : Bool) → is_collected collected name start ≡ b → is_collected (cond b collected (collected ++ record { task = name; start = start } ∷ [])) name start ≡ true
-    go true e = e
-    go false e =
-        list_any-append (is_batch name start) collected (record { task = name; start = start } ∷ [])
-        ∙ ap (λ b. b || (is_batch name start (record { task = name; start = start }) || false)) e ∙ or_left _ _ own
-
-pub collections-repeated : (f : Kind → Functions) (s : State) (k later : ℕ) (name : List ℕ) (start : ℕ) (what : Counts) (lines : List Line)
-    → (step f s k (line.Collect name start)).1 ≡ Collected name start what ∷ []
-    → (step f (state_after f (step f s k (line.Collect name start)).0 (k + 1) lines) later (line.Collect name start)).1 ≡ Collected name start what ∷ []
-collections-repeated f s k later name start what lines e = found (find (has_name name) s.tasks) refl e
-  where
-    Again : Outcome → Type 0
-    Again o = o.1 ≡ Collected name start what ∷ [] → (step f (state_after f o.0 (k + 1) lines) later (line.Collect name start)).1 ≡ Collected name start what ∷ []
-
-    tests : (t : PlainTask) → find (has_name name) s.tasks ≡ Some t → (aligned : Bool) → nat_eq (start % t.precision) 0 ≡ aligned → (due : Bool)
-        → Again (cond (not aligned) (refused s k cause.Start) (cond due (record s { collected = with_batch s.collected t.name start }, collection_of f s t start ∷ [])
-        (s, Small t.name start (length (contents_in f t start s.accepted)) ∷ [])))
-    tests t is true aligned true h =
+    -- behind a state in which the batch is collected, with the reports of now
+    behind : (t : PlainTask) → find (has_name name) s.tasks ≡ Some t → passes_start span t.precision ≡ true
+        → (first : State) → first.tasks ≡ s.tasks → first.accepted ≡ s.accepted → is_collected first.collected t.name span ≡ true
+        → collection_of f s t span ∷ [] ≡ Collected name span what ∷ []
+        → (step f (state_after f first (k + 1) lines) later (line.Collect name span)).1 ≡ Collected name span what ∷ []
+    behind t is passes first tasks accepted closed h =
         let named : t.name ≡ name = found_name name s.tasks t is in
         let known : find (has_name t.name) s.tasks ≡ Some t = ap (λ (n : List ℕ). find (has_name n) s.tasks) named ∙ is in
-        let contents : List (List ℕ) = contents_in f t start s.accepted in
-        let rejected : ℕ = rejected_in f t start s.accepted in
-        let first : State = record s { collected = with_batch s.collected t.name start } in
-        let begins : Stays f t start s.tasks known contents rejected first = record { tasks_are = refl; closed = with_batch-closed s.collected t.name start; contents_are = refl; rejected_are = refl } in
+        let contents : List (List ℕ) = batch_contents f t span s.accepted in
+        let rejected : ℕ = batch_rejected f t span s.accepted in
+        let begins : Stays f t span s.tasks known contents rejected first =
+        record { tasks_are = tasks; closed = closed; contents_are = ap (batch_contents f t span) accepted; rejected_are = ap (batch_rejected f t span) accepted } in
         let last : State = state_after f first (k + 1) lines in
-        let stays : Stays f t start s.tasks known contents rejected last = run_stays f t start s.tasks known contents rejected first (k + 1) lines begins in
-        ap (λ (n : List ℕ). (step f last later (line.Collect n start)).1) (sym named)
-        ∙ collection_stays f t start s.tasks known contents rejected last later stays aligned ∙ h
-    tests t is true aligned false h = absurd cc
-    tests t is false aligned due h = absurd cc
+        let stays : Stays f t span s.tasks known contents rejected last = run_stays f t span s.tasks known contents rejected first (k + 1) lines begins in
+        ap (λ (n : List ℕ). (step f last later (line.Collect n span)).1) (sym named)
+        ∙ collection_stays f t span s.tasks known contents rejected last later stays passes ∙ h
 
-    found : (o : Option PlainTask) → find (has_name name) s.tasks ≡ o → Again (option_map_or (collect_of f s k start) o (refused s k cause.Task))
+    by_tests_of : (t : PlainTask) → find (has_name name) s.tasks ≡ Some t → (passes : Bool) → passes_start span t.precision ≡ passes
+        → (was : Bool) → is_collected s.collected t.name span ≡ was → (other : Option Span) (enough : Bool) → Repeats (tests f s k span t passes was other enough)
+    by_tests_of t is false p was w other enough h = absurd cc
+    by_tests_of t is true p true w other enough h = behind t is p s refl refl w h
+    by_tests_of t is true p false w (Some o) enough h = absurd cc
+    by_tests_of t is true p false w None true h =
+        behind t is p (with_collected s t.name span) refl refl
+        (collected_is (s.collected ++ record { task = t.name; span = span } ∷ []) t.name span (Contains-push s.collected (record { task = t.name; span = span }))) h
+    by_tests_of t is true p false w None false h = absurd cc
+
+    found : (o : Option PlainTask) → find (has_name name) s.tasks ≡ o → Repeats (option_map_or (collect_of f s k span) o (refused s k cause.Task))
     found None is h = absurd cc
-    found (Some t) is h = tests t is (nat_eq (start % t.precision) 0) refl (is_due f s t start) h
+    found (Some t) is h =
+        by_tests_of t is (passes_start span t.precision) refl (is_collected s.collected t.name span) refl (earliest (sharing t span s.collected))
+        (nat_le t.min (reports_with_content f s t span)) h

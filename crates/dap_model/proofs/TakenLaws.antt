@@ -1,6 +1,6 @@
 -- The state after lines whose measurements are taken.
-use Rattle.std.proofs.Common.{◌≡◌, ◌⊎◌, ℕ, ◌+◌, List, [], ◌∷◌, ◌++◌, Bool, false, ◌&&◌, is_some, Option, Some, None, refl, sym, ap, subst, ◌∙◌, inl, inr, arith, ◌≤◌, append-nil, append_assoc}
-use Rattle.std.proofs.lemmas.Bool.{or_from, or_parts, le-ltb, ltb-false}
+use Rattle.std.proofs.Common.{◌≡◌, ◌⊎◌, ℕ, ◌+◌, List, [], ◌∷◌, ◌++◌, Bool, false, ◌&&◌, is_some, Option, Some, None, refl, sym, ap, subst, ◌∙◌, inl, inr, arith, ◌≤◌, append-nil, append_assoc, ◌<◌}
+use Rattle.std.proofs.lemmas.Bool.{or_from, or_parts, le-ltb, ltb-false, lt-leb}
 use Rattle.std.proofs.lemmas.List.Elements.{All-contains}
 use Rattle.std.proofs.lemmas.List.Folds.{list_any-append}
 use Rattle.std.specs.List.{find, list_any, Contains}
@@ -12,7 +12,7 @@ use Rattle.dap_batch.specs.Group.{batch_start}
 use Rattle.dap_messages.specs.Messages.{report}
 use Rattle.dap_messages.specs.declared.report.Report.{Report}
 use Rattle.dap_seal.specs.Reports.{report_of}
-use Rattle.dap_tasks.specs.Judged.{judged, is_early}
+use Rattle.dap_tasks.specs.Judged.{judged, is_early, is_expired}
 use Rattle.dap_tasks.specs.Task.{PlainTask, has_name}
 use Rattle.dap_tasks.specs.declared.cause.Cause.TheVariants as cause
 use Rattle.dap_tasks.specs.declared.cause.Judged.TheVariants.{Added}
@@ -23,11 +23,12 @@ use Rattle.dap_model.proofs.MomentLaws.{greatest-push}
 use Rattle.dap_model.proofs.OnceLaws.{is_some-known_in}
 use Rattle.dap_model.specs.Changes.{AddsBatch}
 use Rattle.dap_model.specs.Counts.{AreTaken, IsTaken, IsTakenLine, collects, is_collection, measures}
-use Rattle.dap_model.specs.Moments.{IsGreatest, IsTimely, time_in, times_of}
+use Rattle.dap_model.specs.Moments.{IsGreatest, IsTimely, time_in, times_of, IsUnexpired}
 use Rattle.dap_model.specs.Run.{printed_from, state_after}
-use Rattle.dap_model.specs.State.{State, has_key, is_batch, is_collected, known_in, opening}
+use Rattle.dap_model.specs.State.{State, has_key, known_in, opening, Batch, has_bucket, is_closed}
 use Rattle.dap_model.specs.Step.{raised, Outcome, after_judgement, measure_of, offered, refused, step}
 use Rattle.dap_model.specs.declared.printed.Printed.{Printed}
+use Rattle.dap_bytes.specs.declared.span.Span.{Span}
 
 none_known : (o : Option (List ℕ)) → is_some o ≡ false → o ≡ None
 none_known None e = refl
@@ -40,9 +41,16 @@ not_early times (Some m) time h (inr (t, c, le)) =
     let below : t ≤ m = All-contains (λ x. x ≤ m) times t h.1 c in
     le-ltb _ time (omega (arith, below, ltb-false _ time le))
 
-judged_added : (known : Option (List ℕ)) (moment : Option ℕ) (closed : Bool) (bytes : List ℕ) (time : ℕ) → known ≡ None → is_early moment time ≡ false → closed ≡ false
-    → judged known moment closed bytes time ≡ Added
-judged_added known moment closed bytes time e m c = rw (e, m, c) refl
+not_expired : (times : List ℕ) (moment expires : Option ℕ) → IsGreatest times moment → IsUnexpired times expires → is_expired moment expires ≡ false
+not_expired times None None h u = refl
+not_expired times None (Some end) h u = refl
+not_expired times (Some m) None h u = refl
+not_expired times (Some m) (Some end) h u = lt-leb end m (All-contains (λ t. t < end) times m u h.0)
+
+judged_added : (known : Option (List ℕ)) (moment expires : Option ℕ) (closed : Bool) (bytes : List ℕ) (time : ℕ)
+    → known ≡ None → is_early moment time ≡ false → is_expired moment expires ≡ false → closed ≡ false
+    → judged known moment expires closed bytes time ≡ Added
+judged_added known moment expires closed bytes time e m x c = rw (e, m, x, c) refl
 
 times_of-push : (done : List Line) (l : Line) → times_of (done ++ l ∷ []) ≡ times_of done ++ time_in l
 times_of-push [] l = append-nil (time_in l)
@@ -68,7 +76,7 @@ module _ (f : Kind → Functions) (tasks : List PlainTask) where
     pub known : s.tasks ≡ tasks
     pub moment : IsGreatest (times_of done) s.moment
     pub accepted : s.accepted ≡ reports_of done
-    pub collected : (name : List ℕ) (start : ℕ) → list_any (collects name start) done ≡ false → is_collected s.collected name start ≡ false
+    pub collected : (has_it : Batch → Bool) → list_any (collects has_it) done ≡ false → list_any has_it s.collected ≡ false
 
   made_none : (name id n i : List ℕ) (time value : ℕ) (seed : List ℕ) → (bytes_eq n name && bytes_eq i id) ≡ false
       → list_any (has_key name id) (made_by (line.Measure n i time value seed)) ≡ false
@@ -90,10 +98,10 @@ module _ (f : Kind → Functions) (tasks : List PlainTask) where
       list_any-append (has_key name id) (made_by (line.Measure n i time value seed)) (reports_of done)
       ∙ or_from _ _ (made_none name id n i time value seed p.0) (no_report name id done p.1)
   no_report name id (line.Blank ∷ done) h = no_report name id done h
-  no_report name id (line.Task n kind min precision ∷ done) h = no_report name id done h
+  no_report name id (line.Task n kind min precision expires ∷ done) h = no_report name id done h
   no_report name id (line.Now t ∷ done) h = no_report name id done h
   no_report name id (line.Upload bytes ∷ done) h = no_report name id done h
-  no_report name id (line.Collect n from ∷ done) h = no_report name id done h
+  no_report name id (line.Collect n span ∷ done) h = no_report name id done h
   no_report name id (line.Restart node ∷ done) h = no_report name id done h
 
   -- a line that neither measures nor collects nor tells a time keeps what stands
@@ -103,23 +111,26 @@ module _ (f : Kind → Functions) (tasks : List PlainTask) where
     moment = subst (λ (times : List ℕ). IsGreatest times s.moment)
         (sym (times_of-push done l ∙ ap (λ r. times_of done ++ r) untold ∙ append-nil (times_of done))) h.moment;
     accepted = h.accepted ∙ sym (reports_of-push done l ∙ ap (λ r. reports_of done ++ r) none ∙ append-nil (reports_of done));
-    collected = λ name start e. h.collected name start (or_parts _ _ (sym (list_any-append (collects name start) done (l ∷ [])) ∙ e)).0;
+    collected = λ has_it e. h.collected has_it (or_parts _ _ (sym (list_any-append (collects has_it) done (l ∷ [])) ∙ e)).0;
   }
 
   taken_step : (done : List Line) (s : State) (k : ℕ) (name id : List ℕ) (time value : ℕ) (seed : List ℕ) → Stands done s → (t : IsTaken f tasks done name id time value seed)
       → step f s k (line.Measure name id time value seed) ≡ (record s { accepted = s.accepted ++ report_of t.task id time t.shares ∷ [] }, [])
   taken_step done s k name id time value seed h t =
       let a : Report = report_of t.task id time t.shares in
-      let closed : Bool = is_collected s.collected t.task.name (batch_start time t.task.precision) in
+      let bucket : ℕ = batch_start time t.task.precision in
+      let closed : Bool = is_closed s.collected t.task.name t.task.precision bucket in
       let named : t.task.name ≡ name = found_name name tasks t.task t.known in
       let none : list_any (has_key t.task.name id) s.accepted ≡ false =
       ap (λ (n : List ℕ). list_any (has_key n id) s.accepted) named ∙ ap (list_any (has_key name id)) h.accepted ∙ no_report name id done t.new in
       let unknown : known_in s.accepted t.task.name id ≡ None = none_known (known_in s.accepted t.task.name id) (is_some-known_in s.accepted t.task.name id ∙ none) in
-      let open_ : closed ≡ false = ap (λ (n : List ℕ). is_collected s.collected n (batch_start time t.task.precision)) named ∙ h.collected name (batch_start time t.task.precision) t.uncollected in
+      let open_ : closed ≡ false =
+      ap (λ (n : List ℕ). is_closed s.collected n t.task.precision bucket) named ∙ h.collected (has_bucket name t.task.precision bucket) t.uncollected in
       let found : find (has_name name) s.tasks ≡ Some t.task = ap (find (has_name name)) h.known ∙ t.known in
       ap (λ (o : Option PlainTask). option_map_or (measure_of f s k id time value seed) o (refused s k cause.Task)) found
       ∙ ap (λ (o : Option Parts). option_map_or (offered s k t.task) (option_map (report_of t.task id time) o) (refused s k cause.Value)) t.shared
-      ∙ ap (after_judgement s k a) (judged_added (known_in s.accepted t.task.name id) s.moment closed (report.spell a) time unknown (not_early (times_of done) s.moment time h.moment t.timely) open_)
+      ∙ ap (after_judgement s k a) (judged_added (known_in s.accepted t.task.name id) s.moment t.task.expires closed (report.spell a) time unknown
+      (not_early (times_of done) s.moment time h.moment t.timely) (not_expired (times_of done) s.moment t.task.expires h.moment t.unexpired) open_)
 
   pub made_is : (done : List Line) (name id : List ℕ) (time value : ℕ) (seed : List ℕ) (t : IsTaken f tasks done name id time value seed)
       → made_by (line.Measure name id time value seed) ≡ report_of t.task id time t.shares ∷ []
@@ -137,22 +148,22 @@ module _ (f : Kind → Functions) (tasks : List PlainTask) where
         moment = subst (λ (times : List ℕ). IsGreatest times s.moment) (sym (times_of-push done l ∙ append-nil (times_of done))) h.moment;
         accepted = ap (λ r. r ++ report_of t.task id time t.shares ∷ []) h.accepted
             ∙ sym (reports_of-push done l ∙ ap (λ r. reports_of done ++ r) (made_is done name id time value seed t));
-        collected = λ n start e. h.collected n start (or_parts _ _ (sym (list_any-append (collects n start) done (l ∷ [])) ∙ e)).0;
+        collected = λ has_it e. h.collected has_it (or_parts _ _ (sym (list_any-append (collects has_it) done (l ∷ [])) ∙ e)).0;
       })
 
-  collected_stands : (done : List Line) (s : State) (k : ℕ) (name : List ℕ) (start : ℕ) → Stands done s → Stands (done ++ line.Collect name start ∷ []) (step f s k (line.Collect name start)).0
-  collected_stands done s k name start h = go (changes_named f s k (line.Collect name start))
+  collected_stands : (done : List Line) (s : State) (k : ℕ) (name : List ℕ) (span : Span) → Stands done s → Stands (done ++ line.Collect name span ∷ []) (step f s k (line.Collect name span)).0
+  collected_stands done s k name span h = go (changes_named f s k (line.Collect name span))
     where
-      go : ((step f s k (line.Collect name start)).0 ≡ s) ⊎ AddsBatch s (step f s k (line.Collect name start)).0 name start
-          → Stands (done ++ line.Collect name start ∷ []) (step f s k (line.Collect name start)).0
-      go (inl same) = subst (Stands (done ++ line.Collect name start ∷ [])) (sym same) (still done (line.Collect name start) s refl refl h)
-      go (inr adds) = subst (Stands (done ++ line.Collect name start ∷ [])) (sym adds) (record {
+      go : ((step f s k (line.Collect name span)).0 ≡ s) ⊎ AddsBatch s (step f s k (line.Collect name span)).0 name span
+          → Stands (done ++ line.Collect name span ∷ []) (step f s k (line.Collect name span)).0
+      go (inl same) = subst (Stands (done ++ line.Collect name span ∷ [])) (sym same) (still done (line.Collect name span) s refl refl h)
+      go (inr adds) = subst (Stands (done ++ line.Collect name span ∷ [])) (sym adds) (record {
         known = h.known;
-        moment = (still done (line.Collect name start) s refl refl h).moment;
-        accepted = (still done (line.Collect name start) s refl refl h).accepted;
-        collected = λ n from e.
-            let p = or_parts (list_any (collects n from) done) (list_any (collects n from) (line.Collect name start ∷ [])) (sym (list_any-append (collects n from) done (line.Collect name start ∷ [])) ∙ e) in
-            list_any-append (is_batch n from) s.collected (record { task = name; start = start } ∷ []) ∙ or_from _ _ (h.collected n from p.0) p.1;
+        moment = (still done (line.Collect name span) s refl refl h).moment;
+        accepted = (still done (line.Collect name span) s refl refl h).accepted;
+        collected = λ has_it e.
+            let p = or_parts (list_any (collects has_it) done) (list_any (collects has_it) (line.Collect name span ∷ [])) (sym (list_any-append (collects has_it) done (line.Collect name span ∷ [])) ∙ e) in
+            list_any-append has_it s.collected (record { task = name; span = span } ∷ []) ∙ or_from _ _ (h.collected has_it p.0) p.1;
       })
 
   told_stands : (done : List Line) (s : State) (t : ℕ) → Stands done s → Stands (done ++ line.Now t ∷ []) (record s { moment = raised s.moment t })
@@ -160,16 +171,16 @@ module _ (f : Kind → Functions) (tasks : List PlainTask) where
     known = h.known;
     moment = subst (λ (times : List ℕ). IsGreatest times (raised s.moment t)) (sym (times_of-push done (line.Now t))) (greatest-push (times_of done) s.moment t h.moment);
     accepted = h.accepted ∙ sym (reports_of-push done (line.Now t) ∙ append-nil (reports_of done));
-    collected = λ name start e. h.collected name start (or_parts _ _ (sym (list_any-append (collects name start) done (line.Now t ∷ [])) ∙ e)).0;
+    collected = λ has_it e. h.collected has_it (or_parts _ _ (sym (list_any-append (collects has_it) done (line.Now t ∷ [])) ∙ e)).0;
   }
 
   step_stands : (done : List Line) (s : State) (k : ℕ) (l : Line) → Stands done s → IsTakenLine f tasks done l → Stands (done ++ l ∷ []) (step f s k l).0
   step_stands done s k line.Blank h t = still done line.Blank s refl refl h
-  step_stands done s k (line.Task name kind min precision) h t = still done (line.Task name kind min precision) s refl refl h
+  step_stands done s k (line.Task name kind min precision expires) h t = still done (line.Task name kind min precision expires) s refl refl h
   step_stands done s k (line.Now moment) h t = told_stands done s moment h
   step_stands done s k (line.Measure name id time value seed) h t = measured_stands done s k name id time value seed h t
   step_stands done s k (line.Upload bytes) h t = absurd t
-  step_stands done s k (line.Collect name start) h t = collected_stands done s k name start h
+  step_stands done s k (line.Collect name span) h t = collected_stands done s k name span h
   step_stands done s k (line.Restart node) h t = still done (line.Restart node) s refl refl h
 
   pub run_stands : (done : List Line) (s : State) (k : ℕ) (lines : List Line) → Stands done s → AreTaken f tasks done lines → Stands (done ++ lines) (state_after f s k lines)
@@ -179,15 +190,15 @@ module _ (f : Kind → Functions) (tasks : List PlainTask) where
       (run_stands (done ++ l ∷ []) (step f s k l).0 (k + 1) more (step_stands done s k l h t.0) t.1)
 
   pub opening_stands : Stands [] (opening tasks)
-  opening_stands = record { known = refl; moment = refl; accepted = refl; collected = λ name start e. refl }
+  opening_stands = record { known = refl; moment = refl; accepted = refl; collected = λ has_it e. refl }
 
   line_prints : (done : List Line) (s : State) (k : ℕ) (l : Line) → Stands done s → IsTakenLine f tasks done l → is_collection l ≡ false → (step f s k l).1 ≡ []
   line_prints done s k line.Blank h t e = refl
-  line_prints done s k (line.Task name kind min precision) h t e = refl
+  line_prints done s k (line.Task name kind min precision expires) h t e = refl
   line_prints done s k (line.Now moment) h t e = refl
   line_prints done s k (line.Measure name id time value seed) h t e = ap (λ (o : Outcome). o.1) (taken_step done s k name id time value seed h t)
   line_prints done s k (line.Upload bytes) h t e = absurd t
-  line_prints done s k (line.Collect name start) h t e = cc e
+  line_prints done s k (line.Collect name span) h t e = cc e
   line_prints done s k (line.Restart node) h t e = refl
 
   run_prints : (done : List Line) (s : State) (k : ℕ) (lines : List Line) → Stands done s → AreTaken f tasks done lines → list_any is_collection lines ≡ false → printed_from f s k lines ≡ []

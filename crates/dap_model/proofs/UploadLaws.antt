@@ -1,5 +1,5 @@
 -- What an upload comes to.
-use Rattle.std.proofs.Common.{◌≡◌, ℕ, List, [], ◌∷◌, Bool, cond, true, false, is_some, Option, Some, None, Result, Ok, Err, refl, sym, ap, subst, ◌∙◌}
+use Rattle.std.proofs.Common.{◌≡◌, ℕ, List, [], ◌∷◌, Bool, true, false, is_some, Option, Some, None, Result, Ok, Err, refl, sym, ap, subst, ◌∙◌}
 use Rattle.std.specs.List.{find}
 use Rattle.std.specs.Option.{option_map, option_map_or}
 use Rattle.std.specs.Result.{result_ok}
@@ -15,19 +15,19 @@ use Rattle.dap_messages.specs.Messages.{report}
 use Rattle.dap_messages.specs.declared.report.Report.{Report}
 use Rattle.dap_seal.proofs.Honest.{honest-allowed, honest-is}
 use Rattle.dap_seal.specs.Reports.{report_of}
-use Rattle.dap_tasks.specs.Judged.{is_early, is_known_as}
+use Rattle.dap_tasks.specs.Judged.{is_early, is_known_as, is_expired}
 use Rattle.dap_tasks.specs.Task.{PlainTask, has_name}
 use Rattle.dap_tasks.specs.declared.cause.Cause.{Cause}
 use Rattle.dap_tasks.specs.declared.cause.Cause.TheVariants as cause
-use Rattle.dap_tasks.specs.declared.cause.Judged.TheVariants.{Again, Barred, Added}
 use Rattle.dap_script.specs.declared.line.Line.TheVariants as line
 use Rattle.dap_model.proofs.NameLemmas.{begins_from, name_in-begins, name_in-report}
 use Rattle.dap_batch.specs.Group.{batch_start}
-use Rattle.dap_model.specs.State.{State, is_collected, known_in}
+use Rattle.dap_model.specs.State.{State, known_in, is_closed}
 use Rattle.dap_model.specs.Step.{Outcome, after_judgement, measure_of, name_in, offered, refused, report_in, step, upload_named, upload_of, upload_to}
 use Rattle.dap_model.specs.Uploads.{GoesByTheFirstCause, IsHonest, IsNoReport, MeasuresByTheFirstCause, NamesNoTask}
 use Rattle.dap_model.specs.declared.printed.Printed.TheVariants.{Refused}
 use Rattle.dap_model.proofs.ChangeLaws.{found_name}
+use Rattle.dap_model.proofs.TestLemmas.{by_tests}
 
 -- ---- honest reports
 
@@ -74,14 +74,15 @@ module _ (s : State) (k : ℕ) (bytes : List ℕ) where
   Said after why = after.1 ≡ Refused k why ∷ []
 
   -- a report that is offered is refused neither as of no task nor as no report
-  offered_says : (r : Report) (why : Cause) → (again early known closed : Bool)
-      → Said (after_judgement s k r (cond again Again (cond early (Barred cause.Early) (cond known (Barred cause.Conflict) (cond closed (Barred cause.Collected) Added))))) why
+  offered_says : (r : Report) (why : Cause) → (again early expired known closed : Bool)
+      → Said (after_judgement s k r (by_tests again early expired known closed)) why
       → (why ≡ cause.Task → ⊥) × (why ≡ cause.Form → ⊥)
-  offered_says r why true early known closed e = absurd cc
-  offered_says r why false true known closed e = (λ h. absurd cc, λ h. absurd cc)
-  offered_says r why false false true closed e = (λ h. absurd cc, λ h. absurd cc)
-  offered_says r why false false false true e = (λ h. absurd cc, λ h. absurd cc)
-  offered_says r why false false false false e = absurd cc
+  offered_says r why true early expired known closed e = absurd cc
+  offered_says r why false true expired known closed e = (λ h. absurd cc, λ h. absurd cc)
+  offered_says r why false false true known closed e = (λ h. absurd cc, λ h. absurd cc)
+  offered_says r why false false false true closed e = (λ h. absurd cc, λ h. absurd cc)
+  offered_says r why false false false false true e = (λ h. absurd cc, λ h. absurd cc)
+  offered_says r why false false false false false e = absurd cc
 
   -- what an upload that begins with a known task's name comes to
   abbrev To : PlainTask → Option Report → Outcome
@@ -91,7 +92,8 @@ module _ (s : State) (k : ℕ) (bytes : List ℕ) where
   only_known t None why e = (λ h. absurd cc, λ h. refl)
   only_known t (Some r) why e =
       let known = known_in s.accepted r.name r.id in
-      let p = offered_says r why (is_known_as known (report.spell r)) (is_early s.moment r.time) (is_some known) (is_collected s.collected r.name (batch_start r.time t.precision)) e in
+      let p = offered_says r why (is_known_as known (report.spell r)) (is_early s.moment r.time) (is_expired s.moment t.expires) (is_some known)
+      (is_closed s.collected r.name t.precision (batch_start r.time t.precision)) e in
       (p.0, λ h. absurd (p.1 h))
 
   unread : (o : Result Report ℕ) → whole report bytes ≡ o → result_ok o ≡ None → IsNoReport bytes

@@ -21,14 +21,14 @@ use Rattle.dap_model.specs.Uploads.{IsHonest}
 -- no line changes the tasks
 tasks_kept : (s after : State) (l : Line) → ChangesNamed s after l → after.tasks ≡ s.tasks
 tasks_kept s after line.Blank h = ap (λ (x : State). x.tasks) h
-tasks_kept s after (line.Task name kind min precision) h = ap (λ (x : State). x.tasks) h
+tasks_kept s after (line.Task name kind min precision expires) h = ap (λ (x : State). x.tasks) h
 tasks_kept s after (line.Now t) h = ap (λ (x : State). x.tasks) h
 tasks_kept s after (line.Measure name id time value seed) (inl same) = ap (λ (x : State). x.tasks) same
 tasks_kept s after (line.Measure name id time value seed) (inr adds) = ap (λ (x : State). x.tasks) adds.grown
 tasks_kept s after (line.Upload bytes) (inl same) = ap (λ (x : State). x.tasks) same
 tasks_kept s after (line.Upload bytes) (inr adds) = ap (λ (x : State). x.tasks) adds.grown
-tasks_kept s after (line.Collect name start) (inl same) = ap (λ (x : State). x.tasks) same
-tasks_kept s after (line.Collect name start) (inr adds) = ap (λ (x : State). x.tasks) adds
+tasks_kept s after (line.Collect name span) (inl same) = ap (λ (x : State). x.tasks) same
+tasks_kept s after (line.Collect name span) (inr adds) = ap (λ (x : State). x.tasks) adds
 tasks_kept s after (line.Restart node) h = ap (λ (x : State). x.tasks) h
 
 module _ (f : Kind → Functions) (tasks : List PlainTask) (laws : (k : Kind) → IsKind k → FunctionLaws (f k)) where

@@ -1,5 +1,6 @@
 -- A batch of honest fair reports, in the measurements that they carry.
 use Rattle.std.specs.Prelude.{◌≡◌, ℕ, List, [], ◌∷◌, length, filter_map, true, Some}
+use Rattle.dap_bytes.specs.declared.span.Span.{Span}
 use Rattle.vdaf_api.specs.Functions.{Functions}
 use Rattle.vdaf_api.specs.Totals.{total_numbers}
 use Rattle.vdaf_api.specs.declared.kind.Kind.{Kind}
@@ -27,7 +28,7 @@ CarryEach f t (measurement ∷ measurements) (r ∷ reports) =
 
 -- The batch has a report for each of these measurements and none that is rejected, and its answer is that of the sum
 -- of their vectors.
-abbrev pub honest_line : (Kind → Functions) → PlainTask → List ℕ → ℕ → List ℕ → Printed
-honest_line f t name start measurements =
+abbrev pub honest_line : (Kind → Functions) → PlainTask → List ℕ → Span → List ℕ → Printed
+honest_line f t name span measurements =
     let total = total_numbers (f t.kind).space (filter_map (f t.kind).encoding measurements) in
-    Collected name start (record { reports = length measurements; rejected = 0; answer = (f t.kind).answer total })
+    Collected name span (record { reports = length measurements; rejected = 0; answer = (f t.kind).answer total })

@@ -1,3 +1,5 @@
+pub mod Apart
+pub mod BatchLaws
 pub mod Changes
 pub mod Collections
 pub mod Counts

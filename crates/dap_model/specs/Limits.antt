@@ -24,9 +24,9 @@ report_offered f tasks (line.Measure name id time value seed) =
 report_offered f tasks (line.Upload bytes) =
     option_and_then (λ name. option_and_then (λ task. report_in bytes) (task_named tasks name)) (name_in bytes)
 report_offered f tasks line.Blank = None
-report_offered f tasks (line.Task name kind min precision) = None
+report_offered f tasks (line.Task name kind min precision expires) = None
 report_offered f tasks (line.Now t) = None
-report_offered f tasks (line.Collect name start) = None
+report_offered f tasks (line.Collect name span) = None
 report_offered f tasks (line.Restart node) = None
 
 -- the reports that lines offer, in order
@@ -66,10 +66,10 @@ passed_in f limits given lines = passed_after f limits (given ++ tasks_of lines)
 
 -- the line ends a segment, of which the printed lines are told together
 abbrev pub ends_segment : Line → Bool
-ends_segment (line.Collect name start) = true
+ends_segment (line.Collect name span) = true
 ends_segment (line.Restart node) = true
 ends_segment line.Blank = false
-ends_segment (line.Task name kind min precision) = false
+ends_segment (line.Task name kind min precision expires) = false
 ends_segment (line.Now t) = false
 ends_segment (line.Measure name id time value seed) = false
 ends_segment (line.Upload bytes) = false

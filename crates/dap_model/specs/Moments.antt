@@ -1,5 +1,5 @@
 -- The moment, in the times of the lines.
-use Rattle.std.specs.Prelude.{◌≡◌, ◌⊎◌, ◌≤◌, ℕ, List, [], ◌∷◌, ◌++◌, false, Option, Some, None}
+use Rattle.std.specs.Prelude.{◌≡◌, ◌⊎◌, ◌<◌, ◌≤◌, ℕ, List, [], ◌∷◌, ◌++◌, false, Option, Some, None}
 use Rattle.std.specs.List.{All, Contains}
 use Rattle.dap_tasks.specs.Judged.{is_early}
 use Rattle.dap_script.specs.declared.line.Line.{Line}
@@ -9,10 +9,10 @@ use Rattle.dap_script.specs.declared.line.Line.TheVariants as line
 abbrev pub time_in : Line → List ℕ
 time_in (line.Now t) = t ∷ []
 time_in line.Blank = []
-time_in (line.Task name kind min precision) = []
+time_in (line.Task name kind min precision expires) = []
 time_in (line.Measure name id time value seed) = []
 time_in (line.Upload bytes) = []
-time_in (line.Collect name start) = []
+time_in (line.Collect name span) = []
 time_in (line.Restart node) = []
 
 -- the times that lines tell, in order
@@ -28,3 +28,8 @@ IsGreatest times (Some moment) = Contains times moment × All (λ t. t ≤ momen
 -- none of the times was told, or the time isn't early at one of them
 abbrev pub IsTimely : List ℕ → ℕ → Type 0
 IsTimely times time = (times ≡ []) ⊎ ((t : ℕ) × Contains times t × (is_early (Some t) time ≡ false))
+
+-- each of the times that were told is below the time at which the task expires, if it expires
+abbrev pub IsUnexpired : List ℕ → Option ℕ → Type 0
+IsUnexpired times None = Unit {0}
+IsUnexpired times (Some end) = All (λ t. t < end) times

@@ -1,6 +1,7 @@
 -- Each line of a script prints as the line of its number, counted from 1.
 use Rattle.std.specs.Prelude.{◌≡◌, ◌+◌, ℕ, List, ◌∷◌, ◌++◌, length}
 use Rattle.std.specs.List.{Contains}
+use Rattle.dap_bytes.specs.declared.span.Span.{Span}
 use Rattle.vdaf_api.specs.Functions.{Functions}
 use Rattle.vdaf_api.specs.declared.kind.Kind.{Kind}
 use Rattle.dap_tasks.specs.Task.{PlainTask}
@@ -11,11 +12,12 @@ use Rattle.dap_model.specs.Run.{model_text, opening_of, printed_from, state_afte
 use Rattle.dap_model.specs.State.{State}
 use Rattle.dap_model.specs.Step.{Outcome, step}
 use Rattle.dap_model.specs.declared.printed.Printed.{Printed}
-use Rattle.dap_model.specs.declared.printed.Printed.TheVariants.{Refused}
+use Rattle.dap_model.specs.declared.printed.Printed.TheVariants.{Refused, Overlap}
 
--- a refusal among the printed lines is that of the line of this number
-abbrev pub AreOfLine : ℕ → List Printed → Type 0
-AreOfLine number printed = (n : ℕ) (why : Cause) → Contains printed (Refused n why) → n ≡ number
+-- A refusal among the printed lines is that of the line of this number.
+pub record AreOfLine (number : ℕ) (printed : List Printed) : Type 0 where
+  pub refused : (n : ℕ) (why : Cause) → Contains printed (Refused n why) → n ≡ number
+  pub overlaps : (n : ℕ) (other : Span) → Contains printed (Overlap n other) → n ≡ number
 
 -- what the line behind these does in the script, as the line of its number
 abbrev pub in_its_place : (Kind → Functions) → State → List Line → Line → Outcome

@@ -20,9 +20,9 @@ Brings f tasks (line.Measure name id time value seed) t r =
     (task_named tasks name ≡ Some t) × (honest_report (f t.kind) t id time value seed ≡ Some r)
 Brings f tasks (line.Upload bytes) t r = (task_named tasks r.name ≡ Some t) × (whole report bytes ≡ Ok r)
 Brings f tasks line.Blank t r = ⊥
-Brings f tasks (line.Task name kind min precision) t r = ⊥
+Brings f tasks (line.Task name kind min precision expires) t r = ⊥
 Brings f tasks (line.Now moment) t r = ⊥
-Brings f tasks (line.Collect name start) t r = ⊥
+Brings f tasks (line.Collect name span) t r = ⊥
 Brings f tasks (line.Restart node) t r = ⊥
 
 -- The report that a line brings to a known task is judged as line k says, and it counts for the limits, whatever the

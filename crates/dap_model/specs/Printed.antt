@@ -6,8 +6,9 @@ use Rattle.vdaf_api.specs.declared.answer.Answer.{Answer}
 use Rattle.vdaf_api.specs.declared.answer.Answer.TheVariants.{Count, Sum, Histogram}
 use Rattle.dap_tasks.specs.declared.cause.Cause.{Cause}
 use Rattle.dap_tasks.specs.declared.cause.Cause.TheVariants as cause
+use Rattle.dap_script.specs.Spelling.{span_text}
 use Rattle.dap_model.specs.declared.printed.Printed.{Printed}
-use Rattle.dap_model.specs.declared.printed.Printed.TheVariants.{Collected, Small, Refused}
+use Rattle.dap_model.specs.declared.printed.Printed.TheVariants.{Collected, Small, Refused, Overlap}
 
 -- the word of a cause
 abbrev pub cause_word : Cause → List ℕ
@@ -37,12 +38,14 @@ answer_text (Histogram numbers) = codes " histogram " ++ numbers_text numbers
 
 -- a line, without its end
 abbrev pub line_text : Printed → List ℕ
-line_text (Collected name start what) =
-    codes "collected " ++ name ++ codes " " ++ decimal start ++ codes " reports " ++ decimal what.reports
+line_text (Collected name span what) =
+    codes "collected " ++ name ++ codes " " ++ span_text span ++ codes " reports " ++ decimal what.reports
     ++ codes " rejected " ++ decimal what.rejected ++ answer_text what.answer
-line_text (Small name start reports) =
-    codes "small " ++ name ++ codes " " ++ decimal start ++ codes " reports " ++ decimal reports
+line_text (Small name span reports) =
+    codes "small " ++ name ++ codes " " ++ span_text span ++ codes " reports " ++ decimal reports
 line_text (Refused line why) = codes "refused " ++ decimal line ++ codes " " ++ cause_word why
+line_text (Overlap line other) =
+    codes "refused " ++ decimal line ++ codes " overlap " ++ decimal other.start ++ codes " " ++ decimal other.buckets
 
 -- a line with its end
 abbrev pub spelling : Printed → List ℕ

@@ -14,11 +14,11 @@ use Rattle.dap_model.specs.declared.printed.Printed.{Printed}
 -- the trial task that a line gives, and none for other lines
 abbrev pub task_in : Line → List PlainTask
 task_in line.Blank = []
-task_in (line.Task name kind min precision) = trial_of name kind min precision ∷ []
+task_in (line.Task name kind min precision expires) = trial_of name kind min precision expires ∷ []
 task_in (line.Now t) = []
 task_in (line.Measure name id time value seed) = []
 task_in (line.Upload report) = []
-task_in (line.Collect name start) = []
+task_in (line.Collect name span) = []
 task_in (line.Restart node) = []
 
 -- the trial tasks that lines give

@@ -1,8 +1,10 @@
 -- The plain step: what a line changes, and what it prints.
-use Rattle.std.specs.Prelude.{ℕ, ◌%◌, List, [], ◌∷◌, ◌++◌, length, take, Bool, ◌||◌, not, nat_eq, nat_le, max, if◌then◌else◌, Option, Some, None}
+use Rattle.std.specs.Prelude.{ℕ, List, [], ◌∷◌, ◌++◌, length, take, not, nat_le, max, if◌then◌else◌, Option, Some, None}
 use Rattle.std.specs.Option.{option_map_or}
 use Rattle.std.specs.Result.{result_ok}
 use Rattle.dap_bytes.specs.Name.{name_of}
+use Rattle.dap_bytes.specs.Spans.{passes_start}
+use Rattle.dap_bytes.specs.declared.span.Span.{Span}
 use Rattle.vdaf_api.specs.Functions.{Functions}
 use Rattle.vdaf_api.specs.Totals.{total_numbers}
 use Rattle.vdaf_api.specs.declared.kind.Kind.{Kind}
@@ -19,9 +21,9 @@ use Rattle.dap_tasks.specs.declared.cause.Judged.{Judged}
 use Rattle.dap_tasks.specs.declared.cause.Judged.TheVariants.{Again, Barred, Added}
 use Rattle.dap_script.specs.declared.line.Line.{Line}
 use Rattle.dap_script.specs.declared.line.Line.TheVariants as line
-use Rattle.dap_model.specs.State.{Batch, State, contents_in, is_collected, known_in, rejected_in, task_named}
+use Rattle.dap_model.specs.State.{State, batch_contents, batch_rejected, earliest, is_closed, is_collected, known_in, sharing, task_named, with_collected}
 use Rattle.dap_model.specs.declared.printed.Printed.{Printed}
-use Rattle.dap_model.specs.declared.printed.Printed.TheVariants.{Collected, Small, Refused}
+use Rattle.dap_model.specs.declared.printed.Printed.TheVariants.{Collected, Small, Refused, Overlap}
 
 -- the state after a line, and what the line prints
 abbrev pub Outcome : Type 0
@@ -42,8 +44,8 @@ after_judgement s k new Added = (record s { accepted = s.accepted ++ new ∷ [] 
 -- what a report of the task comes to
 abbrev pub judgement : State → PlainTask → Report → Judged
 judgement s task new =
-    let collected = is_collected s.collected new.name (batch_start new.time task.precision) in
-    judged (known_in s.accepted new.name new.id) s.moment collected (report.spell new) new.time
+    let collected = is_closed s.collected new.name task.precision (batch_start new.time task.precision) in
+    judged (known_in s.accepted new.name new.id) s.moment task.expires collected (report.spell new) new.time
 
 -- a report of the task is offered by line k
 abbrev pub offered : State → ℕ → PlainTask → Report → Outcome
@@ -77,32 +79,37 @@ upload_of s k bytes = option_map_or (upload_named s k bytes) (name_in bytes) (re
 
 -- ---- collections
 
--- the batch has been collected, or has the reports for it
-abbrev pub is_due : (Kind → Functions) → State → PlainTask → ℕ → Bool
-is_due f s task start =
-    is_collected s.collected task.name start || nat_le task.min (length (contents_in f task start s.accepted))
+-- how many of the reports of the task's batch have a content
+abbrev pub reports_with_content : (Kind → Functions) → State → PlainTask → Span → ℕ
+reports_with_content f s task span = length (batch_contents f task span s.accepted)
 
--- the printed line of a batch that is due: its counts, and the answer of the sum of its contents
-abbrev pub collection_of : (Kind → Functions) → State → PlainTask → ℕ → Printed
-collection_of f s task start =
-    Collected task.name start (record {
-      reports = length (contents_in f task start s.accepted);
-      rejected = rejected_in f task start s.accepted;
-      answer = (f task.kind).answer (total_numbers (f task.kind).space (contents_in f task start s.accepted));
+-- the printed line of a collected batch: its counts, and the answer of the sum of its contents
+abbrev pub collection_of : (Kind → Functions) → State → PlainTask → Span → Printed
+collection_of f s task span =
+    Collected task.name span (record {
+      reports = reports_with_content f s task span;
+      rejected = batch_rejected f task span s.accepted;
+      answer = (f task.kind).answer (total_numbers (f task.kind).space (batch_contents f task span s.accepted));
     })
 
--- the collected batches with this one, which stands among them once
-abbrev pub with_batch : List Batch → List ℕ → ℕ → List Batch
-with_batch collected name start =
-    if is_collected collected name start then collected else (collected ++ record { task = name; start = start } ∷ [])
+-- a batch that wasn't collected, and of which no bucket was: it's collected if it has the reports for it
+abbrev pub collect_new : (Kind → Functions) → State → Span → PlainTask → Outcome
+collect_new f s span task =
+    if nat_le task.min (reports_with_content f s task span)
+    then (with_collected s task.name span, collection_of f s task span ∷ [])
+    else (s, Small task.name span (reports_with_content f s task span) ∷ [])
 
--- the task's batch that starts there is collected if it's due
-abbrev pub collect_of : (Kind → Functions) → State → ℕ → ℕ → PlainTask → Outcome
-collect_of f s k start task =
-    if not (nat_eq (start % task.precision) 0) then refused s k cause.Start
-    else (if is_due f s task start
-    then (record s { collected = with_batch s.collected task.name start }, collection_of f s task start ∷ [])
-    else (s, Small task.name start (length (contents_in f task start s.accepted)) ∷ []))
+-- the collected batch is named that shares a bucket with this one, the one that starts first, if there is one
+abbrev pub collect_apart : (Kind → Functions) → State → ℕ → Span → PlainTask → Outcome
+collect_apart f s k span task =
+    option_map_or (λ other. (s, Overlap k other ∷ [])) (earliest (sharing task span s.collected)) (collect_new f s span task)
+
+-- the task's batch is printed if it was collected, else it's collected if no bucket of it was and it has the reports
+abbrev pub collect_of : (Kind → Functions) → State → ℕ → Span → PlainTask → Outcome
+collect_of f s k span task =
+    if not (passes_start span task.precision) then refused s k cause.Start
+    else (if is_collected s.collected task.name span then (s, collection_of f s task span ∷ [])
+    else collect_apart f s k span task)
 
 -- ---- lines
 
@@ -113,11 +120,11 @@ raised moment t = Some (option_map_or (max t) moment t)
 -- what line k does
 abbrev pub step : (Kind → Functions) → State → ℕ → Line → Outcome
 step f s k line.Blank = (s, [])
-step f s k (line.Task name kind min precision) = (s, [])
+step f s k (line.Task name kind min precision expires) = (s, [])
 step f s k (line.Now t) = (record s { moment = raised s.moment t }, [])
 step f s k (line.Measure name id time value seed) =
     option_map_or (measure_of f s k id time value seed) (task_named s.tasks name) (refused s k cause.Task)
 step f s k (line.Upload bytes) = upload_of s k bytes
-step f s k (line.Collect name start) =
-    option_map_or (collect_of f s k start) (task_named s.tasks name) (refused s k cause.Task)
+step f s k (line.Collect name span) =
+    option_map_or (collect_of f s k span) (task_named s.tasks name) (refused s k cause.Task)
 step f s k (line.Restart node) = (s, [])

@@ -1,7 +1,9 @@
 //! Laws of the plain model, in the words of who reads its output.
 
-ghost use Rattle.std.specs.Prelude.{◌≡◌, ◌⊎◌, ◌≤◌, ◌%◌, ℕ, List, [], ◌∷◌, ◌++◌, length, Some, false, take, filter_map};
-ghost use Rattle.std.specs.List.{AllZip, list_any};
+ghost use Rattle.std.specs.Prelude.{◌≡◌, ◌⊎◌, ◌<◌, ◌≤◌, ℕ, List, [], ◌∷◌, ◌++◌, length, Some, true, false, take, filter_map};
+ghost use Rattle.std.specs.List.{All, AllZip, list_any};
+ghost use Rattle.dap_bytes.specs.Spans.{HasBuckets, passes_start};
+ghost use Rattle.dap_bytes.specs.declared.span.Span.{Span as PlainSpan};
 ghost use Rattle.vdaf_api.specs.Functions.{Functions};
 ghost use Rattle.vdaf_api.specs.Kind.{IsKind};
 ghost use Rattle.vdaf_api.specs.declared.answer.Collected.{Collected as Counts};
@@ -9,10 +11,12 @@ ghost use Rattle.vdaf_api.specs.declared.kind.Kind.{Kind};
 ghost use Rattle.dap_messages.specs.Messages.{report};
 ghost use Rattle.dap_messages.specs.declared.report.Report.{Report};
 ghost use Rattle.dap_tasks.specs.Task.{PlainTask};
+ghost use Rattle.dap_script.specs.Spelling.{IsInRange};
 ghost use Rattle.dap_script.specs.declared.line.Line.{Line as PlainLine};
 ghost use Rattle.dap_script.specs.declared.line.Line.TheVariants.{Collect, Measure, Upload};
+ghost use Rattle.dap_model.specs.Apart.{HoldsCollected, IsApart};
 ghost use Rattle.dap_model.specs.Changes.{AreDistinct, ChangesNamed};
-ghost use Rattle.dap_model.specs.Collections.{CollectsByTheFirstCause, IsRepeated, WasCollected, batch_reports};
+ghost use Rattle.dap_model.specs.Collections.{CollectsByTheFirstCause, HoldsReportsOnce, IsFirstOverlap, IsFree, IsRepeated, WasCollected, batch_reports};
 ghost use Rattle.dap_model.specs.Counts.{AreTaken, PrintsCounted, collects, is_collection};
 ghost use Rattle.dap_model.specs.Growth.{GrowsTo};
 ghost use Rattle.dap_model.specs.Honest.{CarryEach, honest_line};
@@ -25,21 +29,22 @@ ghost use Rattle.dap_model.specs.Offers.{IsJudged};
 ghost use Rattle.dap_model.specs.Passes.{IsExact};
 ghost use Rattle.dap_model.specs.declared.limits.Limits.{Limits as PlainLimits};
 ghost use Rattle.dap_model.specs.Run.{model_text, printed_from, state_after, tasks_of};
-ghost use Rattle.dap_model.specs.State.{State, opening, task_named};
+ghost use Rattle.dap_model.specs.State.{State, opening, shares_with, task_named};
 ghost use Rattle.dap_model.specs.Step.{offered, step};
 ghost use Rattle.dap_model.specs.Uploaded.{IsOrUploads};
 ghost use Rattle.dap_model.specs.Uploads.{GoesByTheFirstCause, IsHonest, MeasuresByTheFirstCause};
 
 use vdaf_api::Vdaf;
 
-/// A law: where each measurement of the lines is a fair one of a known task that isn't early, under an identifier and
-/// in a batch that no line before it takes, a first collection of a batch prints one line. Its reports are the
-/// measurements that fall in the batch, none is rejected, and its answer is that of the sum of their vectors.
+/// A law: where each measurement of the lines is a fair one of a known task that hasn't expired, isn't early, and is under
+/// an identifier and in a bucket that no line before it takes, a collection of a batch of which no bucket was collected
+/// prints one line. Its reports are the measurements that fall in the batch, none is rejected, and its answer is that of
+/// the sum of their vectors.
 pub fn batches_are_counted<V: Vdaf>(_: &V)
-    ensures { (tasks : List PlainTask) (task : PlainTask) (start number : ℕ) (lines : List PlainLine)
-        → task_named tasks task.name ≡ Some task → start % task.precision ≡ 0
-        → AreTaken V.of_kind tasks [] lines → list_any (collects task.name start) lines ≡ false
-        → PrintsCounted V.of_kind tasks task start number lines }
+    ensures { (tasks : List PlainTask) (task : PlainTask) (span : PlainSpan) (number : ℕ) (lines : List PlainLine)
+        → task_named tasks task.name ≡ Some task → HasBuckets span → passes_start span task.precision ≡ true
+        → AreTaken V.of_kind tasks [] lines → list_any (collects (shares_with task span)) lines ≡ false
+        → PrintsCounted V.of_kind tasks task span number lines }
 {}
 
 /// A law: such lines print nothing, if none of them is a collection.
@@ -97,25 +102,51 @@ pub fn uploads_go_by_the_first_cause()
 {}
 
 /// A law: a report that is offered to its task goes by the first that applies. It is known already, and nothing is
-/// printed; it is early; its identifier is known with other bytes; its batch was collected; else it is accepted.
+/// printed; it is early; its task has expired; its identifier is known with other bytes; its bucket lies in a batch that
+/// was collected; else it is accepted.
 pub fn offered_reports_are_judged()
     ensures { (state : State) (number : ℕ) (task : PlainTask) (r : Report)
         → AreDistinct state.accepted → IsJudged state number task r (offered state number task r) }
 {}
 
 /// A law: a collection is refused `task` where its name is no known task's, else `start` where the start is no multiple
-/// of the precision. Else the batch is collected where it was before, or where enough of its accepted reports have a
-/// content: each of its reports is counted once, as a report or as rejected, and the batch takes no more reports. Else
-/// how many have a content is told, and the batch stays open.
+/// of the precision or the last bucket starts too late. Else a batch that was collected is printed again. Else, where a
+/// collected batch shares a bucket with it, the one of these that starts first is named. Else the batch is collected where
+/// enough of its accepted reports have a content: each of its reports is counted once, as a report or as rejected, and its
+/// buckets take no more reports. Else how many have a content is told, and the batch stays open.
 pub fn collections_go_by_the_first_cause()
-    ensures { (f : Kind → Functions) (state : State) (number : ℕ) (name : List ℕ) (start : ℕ)
-        → CollectsByTheFirstCause f state number name start (step f state number (Collect name start)) }
+    ensures { (f : Kind → Functions) (state : State) (number : ℕ) (name : List ℕ) (span : PlainSpan)
+        → CollectsByTheFirstCause f state number name span (step f state number (Collect name span)) }
 {}
 
 /// A law: once a batch was collected, each later collection of it prints the same line, whatever the lines between do.
 pub fn collections_are_repeated()
-    ensures { (f : Kind → Functions) (state : State) (number later : ℕ) (name : List ℕ) (start : ℕ) (what : Counts)
-        (lines : List PlainLine) → IsRepeated f state number later name start what lines }
+    ensures { (f : Kind → Functions) (state : State) (number later : ℕ) (name : List ℕ) (span : PlainSpan)
+        (what : Counts) (lines : List PlainLine) → IsRepeated f state number later name span what lines }
+{}
+
+/// A law: the collected batches of a task share no bucket, so that no report counts in two of them. Each line keeps this,
+/// so it holds after all lines. A bucket then lies in one collected batch at most, and of those that share a bucket with
+/// a batch one alone starts first.
+pub fn collected_batches_share_no_bucket()
+    ensures line { (f : Kind → Functions) (state : State) (number : ℕ) (line : PlainLine)
+        → IsInRange line → IsApart state → IsApart (step f state number line).0 }
+    ensures run { (f : Kind → Functions) (tasks : List PlainTask) (lines : List PlainLine)
+        → All IsInRange lines → IsApart (state_after f (opening tasks) 1 lines) }
+    ensures bucket { (state : State) (task : PlainTask) (span other : PlainSpan) (bucket : ℕ)
+        → IsApart state → task_named state.tasks task.name ≡ Some task
+        → HoldsCollected state task span bucket → HoldsCollected state task other bucket → span ≡ other }
+    ensures first { (state : State) (task : PlainTask) (span one other : PlainSpan)
+        → IsApart state → task_named state.tasks task.name ≡ Some task
+        → IsFirstOverlap state task.name task.precision span one
+        → IsFirstOverlap state task.name task.precision span other → one ≡ other }
+{}
+
+/// A law: each accepted report of a task whose bucket lies in a batch is among the batch's reports once, and they are no
+/// others.
+pub fn batches_hold_their_reports_once()
+    ensures { (state : State) (task : PlainTask) (span : PlainSpan) → 0 < task.precision
+        → HoldsReportsOnce state task span }
 {}
 
 /// A law: the moment is the greatest of the times that the lines so far told, and there is none before the first.
@@ -179,11 +210,12 @@ pub fn states_only_grow()
 /// many reports as these carry measurements, none rejected, and the answer of the sum of the measurements' vectors.
 /// Where the reports came from, and what other batches hold, plays no part.
 pub fn honest_batches_are_counted<V: Vdaf>(_: &V)
-    ensures { (state : State) (number : ℕ) (name : List ℕ) (start : ℕ) (task : PlainTask) (measurements : List ℕ)
+    ensures { (state : State) (number : ℕ) (name : List ℕ) (span : PlainSpan) (task : PlainTask) (measurements : List ℕ)
         → IsKind task.kind → length task.verify ≡ 16
-        → CarryEach V.of_kind task measurements (batch_reports state task start)
-        → task_named state.tasks name ≡ Some task → start % task.precision ≡ 0
-        → WasCollected state name start ⊎ (task.min ≤ length measurements)
-        → (step V.of_kind state number (Collect name start)).1
-        ≡ honest_line V.of_kind task name start measurements ∷ [] }
+        → CarryEach V.of_kind task measurements (batch_reports state task span)
+        → task_named state.tasks name ≡ Some task → passes_start span task.precision ≡ true
+        → WasCollected state name span
+        ⊎ (IsFree state name task.precision span × (task.min ≤ length measurements))
+        → (step V.of_kind state number (Collect name span)).1
+        ≡ honest_line V.of_kind task name span measurements ∷ [] }
 {}

@@ -9,13 +9,13 @@ mod printed;
 mod printing;
 
 pub use laws::{
-    batches_are_counted, collections_are_repeated, collections_go_by_the_first_cause,
-    honest_batches_are_counted, honest_uploads_are_measurements, lines_change_what_they_name,
-    lines_offer_what_is_judged, lines_print_by_their_number, measurements_go_by_the_first_cause,
-    measurements_print_nothing, moments_are_the_greatest, offered_reports_are_judged,
-    passed_limits_are_exact, reports_are_accepted_once, segments_are_a_front, segments_are_whole,
-    states_only_grow, uploaded_scripts_print_the_same, uploads_go_by_the_first_cause,
-    whole_segments_are_told,
+    batches_are_counted, batches_hold_their_reports_once, collected_batches_share_no_bucket,
+    collections_are_repeated, collections_go_by_the_first_cause, honest_batches_are_counted,
+    honest_uploads_are_measurements, lines_change_what_they_name, lines_offer_what_is_judged,
+    lines_print_by_their_number, measurements_go_by_the_first_cause, measurements_print_nothing,
+    moments_are_the_greatest, offered_reports_are_judged, passed_limits_are_exact,
+    reports_are_accepted_once, segments_are_a_front, segments_are_whole, states_only_grow,
+    uploaded_scripts_print_the_same, uploads_go_by_the_first_cause, whole_segments_are_told,
 };
 pub use limits::Limits;
 pub use printed::Printed;

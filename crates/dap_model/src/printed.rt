@@ -1,10 +1,10 @@
 //! The printed lines.
 
 ghost use Rattle.std.specs.Prelude.{◌≡◌, ◌++◌, OnOk};
-ghost use Rattle.std.specs.Fmt.{decimal};
-ghost use Rattle.dap_model.specs.Printed.{cause_word, numbers_text, answer_text};
+ghost use Rattle.dap_model.specs.Printed.{answer_text, cause_word, numbers_text};
 
-use dap_bytes::Name;
+use dap_bytes::{Name, Span};
+use dap_script::{put_number, put_span};
 use dap_tasks::Cause;
 use std::alloc::{AllocError, Global};
 use vdaf_api::{Answer, Collected};
@@ -12,16 +12,16 @@ use vdaf_api::{Answer, Collected};
 /// A line of output.
 #[derive(Debug, PartialEq, Eq, Drop)]
 pub enum Printed {
-    /// The task's batch that starts there was collected, now or before.
+    /// The task's batch was collected, now or before.
     Collected {
         name: Name,
-        start: u64,
+        span: Span,
         what: Collected,
     },
-    /// The task's batch that starts there has too few reports to be collected.
+    /// The task's batch has too few reports to be collected.
     Small {
         name: Name,
-        start: u64,
+        span: Span,
         reports: u32,
     },
     /// The line of this number, counted from 1, was refused.
@@ -29,19 +29,18 @@ pub enum Printed {
         line: u32,
         cause: Cause,
     },
+    /// The line of this number, counted from 1, was refused, since its batch shares a bucket with this collected batch of
+    /// its task, of which it isn't a repeat.
+    Overlap {
+        line: u32,
+        other: Span,
+    },
 }
 
 fn put_text(out: &mut Vec<u8>, text: &str) -> Result<(), AllocError>
     ensures ok { OnOk result (out.new.items ≡ out.old.items ++ text.now) }
 {
     out.extend_from_slice(text.as_bytes())
-}
-
-fn put_number(alloc: Global, out: &mut Vec<u8>, number: u128) -> Result<(), AllocError>
-    ensures ok { OnOk result (out.new.items ≡ out.old.items ++ decimal number) }
-{
-    let text = number.to_string(alloc)?;
-    put_text(out, text.as_str())
 }
 
 /// The word of a cause.
@@ -102,11 +101,11 @@ impl Printed {
         ensures { OnOk result (out.new.items ≡ out.old.items ++ line_text self.now) }
     {
         match self {
-            Printed::Collected { name, start, what } => {
+            Printed::Collected { name, span, what } => {
                 put_text(out, "collected ")?;
                 out.extend_from_slice(name.as_bytes())?;
                 put_text(out, " ")?;
-                put_number(alloc, out, u128::from(*start))?;
+                put_span(alloc, out, span)?;
                 put_text(out, " reports ")?;
                 put_number(alloc, out, u128::from(what.reports))?;
                 put_text(out, " rejected ")?;
@@ -115,13 +114,13 @@ impl Printed {
             }
             Printed::Small {
                 name,
-                start,
+                span,
                 reports,
             } => {
                 put_text(out, "small ")?;
                 out.extend_from_slice(name.as_bytes())?;
                 put_text(out, " ")?;
-                put_number(alloc, out, u128::from(*start))?;
+                put_span(alloc, out, span)?;
                 put_text(out, " reports ")?;
                 put_number(alloc, out, u128::from(*reports))
             }
@@ -130,6 +129,14 @@ impl Printed {
                 put_number(alloc, out, u128::from(*line))?;
                 put_text(out, " ")?;
                 put_text(out, cause_word(*cause))
+            }
+            Printed::Overlap { line, other } => {
+                put_text(out, "refused ")?;
+                put_number(alloc, out, u128::from(*line))?;
+                put_text(out, " overlap ")?;
+                put_number(alloc, out, u128::from(other.start))?;
+                put_text(out, " ")?;
+                put_number(alloc, out, u128::from(other.buckets))
             }
         }
     }

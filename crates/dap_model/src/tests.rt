@@ -1,6 +1,8 @@
 //! How lines are spelled, and small rows of the definitions.
 
-ghost use Rattle.std.specs.Prelude.{◌≡◌, ℕ, ◌+◌, List, [], ◌∷◌, ◌++◌, codes, length, Some, None};
+ghost use Rattle.std.specs.Prelude.{◌≡◌, ℕ, ◌+◌, List, [], ◌∷◌, ◌++◌, codes, length, true, false, Some, None};
+ghost use Rattle.dap_bytes.specs.Spans.{one_bucket};
+ghost use Rattle.dap_bytes.specs.declared.span.Span.{Span as PlainSpan};
 ghost use Rattle.vdaf_api.specs.Functions.{Functions};
 ghost use Rattle.vdaf_api.specs.declared.kind.Kind.{Kind};
 ghost use Rattle.vdaf_api.specs.declared.kind.Kind.TheVariants.{Count};
@@ -9,21 +11,33 @@ ghost use Rattle.dap_messages.specs.declared.report.Report.{Report};
 ghost use Rattle.dap_bytes.specs.declared.node.Node.{Node};
 ghost use Rattle.dap_tasks.specs.Task.{PlainTask};
 ghost use Rattle.dap_tasks.specs.Trial.{trial_of};
-ghost use Rattle.dap_tasks.specs.declared.cause.Cause.TheVariants.{Early as EarlyCause, Form as FormCause, Task as TaskCause};
+ghost use Rattle.dap_tasks.specs.declared.cause.Cause.TheVariants.{Early as EarlyCause, Expired as ExpiredCause, Form as FormCause, Task as TaskCause};
 ghost use Rattle.dap_script.specs.declared.line.Line.TheVariants.{Blank, Collect, Measure, Now, Restart, Task, Upload};
 ghost use Rattle.dap_model.specs.Limits.{bytes_in, limit_passed, whole_segments};
 ghost use Rattle.dap_model.specs.Run.{tasks_of};
-ghost use Rattle.dap_model.specs.State.{opening};
+ghost use Rattle.dap_model.specs.State.{Batch, earliest, is_closed, opening, sharing};
 ghost use Rattle.dap_model.specs.Step.{name_in, offered, raised, refused, step};
 
 use super::*;
-use dap_bytes::Name;
+use dap_bytes::{Name, Span};
 use dap_tasks::Cause;
 use std::test::Fail;
 use vdaf_api::{Answer, Collected, Numbers};
 
+/// A batch of one bucket, of which the number is told in an overlap alone.
+const ONE: Span = Span {
+    start: 3600,
+    buckets: 1,
+};
+
+/// A batch of two.
+const TWO: Span = Span {
+    start: 0,
+    buckets: 2,
+};
+
 #[test]
-fn each_line_is_spelled(rt: HostRuntime) -> Result<(), Fail> {
+fn each_answer_is_spelled(rt: HostRuntime) -> Result<(), Fail> {
     let alloc = rt.alloc();
     let name = Name::new(b"v").ok_or("a name")?;
     let mut out = Vec::new(alloc);
@@ -40,24 +54,46 @@ fn each_line_is_spelled(rt: HostRuntime) -> Result<(), Fail> {
         };
         let line = Printed::Collected {
             name,
-            start: 0,
+            span: ONE,
             what,
         };
         print_line(alloc, &line, &mut out)?;
     }
-    let small = Printed::Small {
-        name,
-        start: 3600,
-        reports: 2,
-    };
-    print_line(alloc, &small, &mut out)?;
     assert_eq!(rt;
         str::from_utf8(&out).ok(),
         Some(
-            "collected v 0 reports 3 rejected 1 count 2
-collected v 0 reports 3 rejected 1 sum 55340232221128654845
-collected v 0 reports 3 rejected 1 histogram 1,0,20
-small v 3600 reports 2
+            "collected v 3600 reports 3 rejected 1 count 2
+collected v 3600 reports 3 rejected 1 sum 55340232221128654845
+collected v 3600 reports 3 rejected 1 histogram 1,0,20
+"
+        )
+    );
+    Ok(())
+}
+
+#[test]
+fn the_buckets_of_a_batch_are_told(rt: HostRuntime) -> Result<(), Fail> {
+    let alloc = rt.alloc();
+    let name = Name::new(b"v").ok_or("a name")?;
+    let mut out = Vec::new(alloc);
+    for (span, reports) in [(ONE, 2), (TWO, 1)] {
+        let small = Printed::Small {
+            name,
+            span,
+            reports,
+        };
+        print_line(alloc, &small, &mut out)?;
+    }
+    for other in [ONE, TWO] {
+        print_line(alloc, &Printed::Overlap { line: 7, other }, &mut out)?;
+    }
+    assert_eq!(rt;
+        str::from_utf8(&out).ok(),
+        Some(
+            "small v 3600 reports 2
+small v 0 2 reports 1
+refused 7 overlap 3600 1
+refused 7 overlap 0 2
 "
         )
     );
@@ -106,7 +142,7 @@ fn uploads_of_three_bytes()
         → step f (opening []) 7 (Upload (0 ∷ 0 ∷ 0 ∷ [])) ≡ refused (opening []) 7 FormCause }
     ensures unknown { (f : Kind → Functions)
         → step f (opening []) 7 (Upload (1 ∷ 120 ∷ 0 ∷ [])) ≡ refused (opening []) 7 TaskCause }
-    ensures no_report { (f : Kind → Functions) → let known = opening (trial_of (codes "x") Count 1 3600 ∷ []) in
+    ensures no_report { (f : Kind → Functions) → let known = opening (trial_of (codes "x") Count 1 3600 None ∷ []) in
         step f known 7 (Upload (1 ∷ 120 ∷ 0 ∷ [])) ≡ refused known 7 FormCause }
 {}
 
@@ -119,12 +155,50 @@ fn moments()
 
 /// A report is early from 301 above the moment on, and never where no moment is known.
 fn early_times()
-    ensures last { (t : PlainTask) (r : Report) → let s = record (opening []) { moment = Some 5 } in
+    ensures last { (task : PlainTask) (r : Report) → let s = record (opening []) { moment = Some 5 } in
+        let t = record task { expires = None } in
         offered s 7 t (record r { time = 305 }) ≡ (record s { accepted = record r { time = 305 } ∷ [] }, []) }
     ensures first { (t : PlainTask) (r : Report) → let s = record (opening []) { moment = Some 5 } in
         offered s 7 t (record r { time = 306 }) ≡ refused s 7 EarlyCause }
     ensures never { (t : PlainTask) (r : Report) → let s = opening [] in
         offered s 7 t (record r { time = 306 }) ≡ (record s { accepted = record r { time = 306 } ∷ [] }, []) }
+{}
+
+/// A task expires at its moment, and what is early is called so first.
+fn expired_tasks()
+    ensures last { (task : PlainTask) (r : Report) → let s = record (opening []) { moment = Some 5 } in
+        let t = record task { expires = Some 6 } in
+        offered s 7 t (record r { time = 305 }) ≡ (record s { accepted = record r { time = 305 } ∷ [] }, []) }
+    ensures first { (task : PlainTask) (r : Report) → let s = record (opening []) { moment = Some 5 } in
+        let t = record task { expires = Some 5 } in
+        offered s 7 t (record r { time = 305 }) ≡ refused s 7 ExpiredCause }
+    ensures early { (task : PlainTask) (r : Report) → let s = record (opening []) { moment = Some 5 } in
+        let t = record task { expires = Some 5 } in
+        offered s 7 t (record r { time = 306 }) ≡ refused s 7 EarlyCause }
+{}
+
+/// The buckets that a collected batch of two holds, and the batches that share one with it: not at equal starts alone.
+fn buckets()
+    ensures before { let closed = is_closed (record { task = codes "v"; span = record { start = 10; buckets = 2 } } ∷ []) in
+        closed (codes "v") 10 0 ≡ false }
+    ensures first { let closed = is_closed (record { task = codes "v"; span = record { start = 10; buckets = 2 } } ∷ []) in
+        closed (codes "v") 10 10 ≡ true }
+    ensures last { let closed = is_closed (record { task = codes "v"; span = record { start = 10; buckets = 2 } } ∷ []) in
+        closed (codes "v") 10 20 ≡ true }
+    ensures behind { let closed = is_closed (record { task = codes "v"; span = record { start = 10; buckets = 2 } } ∷ []) in
+        closed (codes "v") 10 30 ≡ false }
+    ensures of_another { let closed = is_closed (record { task = codes "v"; span = record { start = 10; buckets = 2 } } ∷ []) in
+        closed (codes "w") 10 10 ≡ false }
+    ensures shared { let t = trial_of (codes "v") Count 1 10 None in
+        sharing t (one_bucket 20) (record { task = codes "v"; span = record { start = 10; buckets = 2 } } ∷ [])
+        ≡ record { start = 10; buckets = 2 } ∷ [] }
+    ensures held { let t = trial_of (codes "v") Count 1 10 None in
+        sharing t (record { start = 0; buckets = 2 }) (record { task = codes "v"; span = record { start = 10; buckets = 2 } } ∷ [])
+        ≡ record { start = 10; buckets = 2 } ∷ [] }
+    ensures apart { let t = trial_of (codes "v") Count 1 10 None in
+        sharing t (one_bucket 30) (record { task = codes "v"; span = record { start = 10; buckets = 2 } } ∷ []) ≡ [] }
+    ensures starts_first { (a b c : ℕ) → let first : PlainSpan = record { start = 10; buckets = b } in
+        earliest (record { start = 40; buckets = a } ∷ first ∷ record { start = 20; buckets = c } ∷ []) ≡ Some first }
 {}
 
 /// Limits are passed by one more, and 2 is told before 3.
@@ -136,7 +210,8 @@ fn limits()
 /// The trial task of a task line, and none of another; and the bytes of reports.
 fn tasks_and_bytes()
     ensures tasks { (name : List ℕ) (kind : Kind)
-        → tasks_of (Now 5 ∷ Task name kind 3 3600 ∷ Collect name 0 ∷ []) ≡ trial_of name kind 3 3600 ∷ [] }
+        → tasks_of (Now 5 ∷ Task name kind 3 3600 (Some 9) ∷ Collect name (one_bucket 0) ∷ [])
+        ≡ trial_of name kind 3 3600 (Some 9) ∷ [] }
     ensures bytes { (r other : Report)
         → bytes_in (r ∷ other ∷ []) ≡ length (report.spell r) + (length (report.spell other) + 0) }
 {}
@@ -144,11 +219,13 @@ fn tasks_and_bytes()
 /// The lines up to the last that ends a segment.
 fn segments()
     ensures none { whole_segments (Blank ∷ Blank ∷ []) ≡ [] }
-    ensures front { (name : List ℕ) (node : Node) → let front = Blank ∷ Collect name 0 ∷ Restart node ∷ [] in
+    ensures front { (name : List ℕ) (span : PlainSpan) (node : Node)
+        → let front = Blank ∷ Collect name span ∷ Restart node ∷ [] in
         whole_segments (front ++ Blank ∷ []) ≡ front }
-    ensures collected { (name : List ℕ) → whole_segments (Collect name 0 ∷ Blank ∷ []) ≡ Collect name 0 ∷ [] }
+    ensures collected { (name : List ℕ) (span : PlainSpan)
+        → whole_segments (Collect name span ∷ Blank ∷ []) ≡ Collect name span ∷ [] }
     ensures open { (name id bytes : List ℕ) (kind : Kind)
-        → whole_segments (Task name kind 1 1 ∷ Now 0 ∷ Measure name id 0 0 bytes ∷ Upload bytes ∷ []) ≡ [] }
+        → whole_segments (Task name kind 1 1 None ∷ Now 0 ∷ Measure name id 0 0 bytes ∷ Upload bytes ∷ []) ≡ [] }
 {}
 
 #[test]
@@ -157,6 +234,8 @@ fn the_definitions_have_these_rows(_rt: HostRuntime) -> Result<(), Fail> {
     uploads_of_three_bytes();
     moments();
     early_times();
+    expired_tasks();
+    buckets();
     limits();
     tasks_and_bytes();
     segments();

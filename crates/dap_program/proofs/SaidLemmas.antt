@@ -1,5 +1,5 @@
 -- What a status says of the work.
-use Rattle.std.proofs.Common.{◌≡◌, ◌⊎◌, ℕ, List, Option, Some, None, Result, Ok, Err, IfOk, IfSome, refl, sym, ap, subst, ◌∙◌, inl, inr}
+use Rattle.std.proofs.Common.{◌≡◌, ◌⊎◌, ℕ, ◌+◌, List, Option, Some, None, Result, Ok, Err, IfOk, IfSome, refl, sym, ap, subst, ◌∙◌, inl, inr}
 use Rattle.prio3_kinds.specs.Kinds.{functions_of_kind}
 use Rattle.dap_tasks.specs.File.{Refusal, tasks_of}
 use Rattle.dap_tasks.specs.Task.{PlainTask}
@@ -11,6 +11,7 @@ use Rattle.dap_program.specs.Lines.{lines_run}
 use Rattle.dap_program.specs.Runs.{Ends, status_after}
 use Rattle.dap_program.specs.Words.{PlainCommand, command_of}
 use Rattle.dap_program.specs.Work.{Work, Scripted, Checked, Loaded, Helped, Versioned, IfTold, work_of}
+use Rattle.dap_program.specs.declared.lines.TheConstants.{MAX_LINES}
 use Rattle.dap_program.specs.declared.status.Status.{Status}
 use Rattle.dap_program.specs.declared.status.Status.TheVariants.{Done, TasksRefused, ScriptRefused, NotYet, ReadFault, WriteFault, Limit, NoMemory}
 
@@ -102,7 +103,7 @@ limit_said (Scripted file script) line limit h = script_ways file script (Limit 
   tasks = λ task field e. cc e;
   lines = λ given t l. stopped given script (Limit line limit) l (record {
     bytes = λ long e. (let a : limit ≡ 5 = cc e in let b : line ≡ 0 = cc e in inl (a, b, long));
-    lines = λ longer e. (let a : limit ≡ 4 = cc e in let b : line ≡ 1000001 = cc e in inr (inl (a, b, longer)));
+    lines = λ longer e. (let a : limit ≡ 4 = cc e in let b : line ≡ MAX_LINES + 1 = cc e in inr (inl (a, b, longer)));
     refused = λ n r e. cc e;
     later = λ lines n r s e. cc e;
     full = λ lines n r s e. (

@@ -1,12 +1,13 @@
 -- What a command comes to.
-use Rattle.std.specs.Prelude.{◌≡◌, ◌⊎◌, ℕ, ◌<◌, List, [], ◌∷◌, ◌++◌, length, true, Option, Some, None, Result, Ok, Err}
+use Rattle.std.specs.Prelude.{◌≡◌, ◌⊎◌, ℕ, ◌+◌, ◌<◌, List, [], length, ◌+◌, true, Option, Some, None, Result, Ok, Err}
 use Rattle.std.specs.Io.KnownBytes.{Appends}
 use Rattle.std.specs.List.{flat_map}
+use Rattle.dap_bytes.specs.declared.limits.TheConstants.{LONGEST_SCRIPT}
 use Rattle.prio3_kinds.specs.Kinds.{functions_of_kind}
 use Rattle.dap_tasks.specs.File.{Refusal, tasks_of}
 use Rattle.dap_tasks.specs.Task.{PlainTask}
 use Rattle.dap_script.specs.Script.{is_longer, script_beside}
-use Rattle.dap_script.specs.Spelling.{spelling}
+use Rattle.dap_script.specs.Spelling.{ended}
 use Rattle.dap_script.specs.declared.line.Line.{Line}
 use Rattle.dap_script.specs.declared.line.Line.TheVariants.{Task}
 use Rattle.dap_model.specs.Limits.{Passed, passed_in, text_before}
@@ -17,6 +18,7 @@ use Rattle.dap_program.specs.Lines.{IsFull, later_line_of, lines_run, names_of}
 use Rattle.dap_program.specs.Transfer.{AppendsPart}
 use Rattle.dap_program.specs.Work.{Work, Scripted, Checked, Loaded, Helped, Versioned}
 use Rattle.dap_program.specs.declared.help.TheConstants.{HELP, VERSION}
+use Rattle.dap_program.specs.declared.lines.TheConstants.{MAX_LINES}
 use Rattle.dap_program.specs.declared.status.Status.{Status}
 use Rattle.dap_program.specs.declared.status.Status.TheVariants.{Done, Usage, TasksRefused, ScriptRefused, NotYet, ReadFault, WriteFault, Limit, NoMemory}
 
@@ -55,7 +57,7 @@ given_tasks (Some file) = tasks_of file
 
 -- the line of a task and its end
 abbrev pub task_line : PlainTask → List ℕ
-task_line task = spelling (Task task.name task.kind task.min task.precision) ++ 10 ∷ []
+task_line task = ended (Task task.name task.kind task.min task.precision task.expires)
 
 -- the lines of the tasks of a file, or a file that is refused
 abbrev pub check_outcome : Result (List PlainTask) Refusal → Outcome
@@ -118,11 +120,11 @@ IsNotYet Versioned n = ⊥
 
 -- Limit 5: the script has too many bytes, and no line is named.
 abbrev pub HasTooManyBytes : List ℕ → ℕ → ℕ → Type 0
-HasTooManyBytes script line limit = (limit ≡ 5) × (line ≡ 0) × (67108864 < length script)
+HasTooManyBytes script line limit = (limit ≡ 5) × (line ≡ 0) × (LONGEST_SCRIPT < length script)
 
 -- Limit 4: it has too many lines, and the first beyond them is named.
 abbrev pub HasTooManyLines : List ℕ → ℕ → ℕ → Type 0
-HasTooManyLines script line limit = (limit ≡ 4) × (line ≡ 1000001) × (is_longer script 1000000 ≡ true)
+HasTooManyLines script line limit = (limit ≡ 4) × (line ≡ MAX_LINES + 1) × (is_longer script MAX_LINES ≡ true)
 
 -- Limit 1: too many tasks are known with this line, and not before.
 abbrev pub HasTooManyTasks : (file : Option (List ℕ)) → (script : List ℕ) → Reads file script → ℕ → ℕ → Type 0

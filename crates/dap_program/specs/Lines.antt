@@ -1,10 +1,12 @@
 -- The lines of a script that are run, and why none are.
 use Rattle.std.specs.Prelude.{ℕ, ◌+◌, ◌<◌, ◌≤◌, List, [], ◌∷◌, map, length, take, nat_lt, Bool, true, false, if◌then◌else◌, Option, Some, None, Result, Ok, Err}
 use Rattle.std.specs.Option.{option_map_or}
+use Rattle.dap_bytes.specs.declared.limits.TheConstants.{LONGEST_SCRIPT}
 use Rattle.dap_tasks.specs.Task.{PlainTask}
 use Rattle.dap_script.specs.Script.{is_longer, script_beside, task_name, task_names}
 use Rattle.dap_script.specs.declared.line.Line.{Line}
 use Rattle.dap_script.specs.declared.line.Line.TheVariants as line
+use Rattle.dap_program.specs.declared.lines.TheConstants.{MAX_LINES, MAX_TASKS}
 use Rattle.dap_program.specs.declared.status.Status.{Status}
 use Rattle.dap_program.specs.declared.status.Status.TheVariants.{ScriptRefused, NotYet, Limit}
 
@@ -15,11 +17,11 @@ names_of tasks = map (λ task. task.name) tasks
 -- a line of a form that isn't run yet: `restart`
 abbrev pub is_later : Line → Bool
 is_later line.Blank = false
-is_later (line.Task name kind min precision) = false
+is_later (line.Task name kind min precision expires) = false
 is_later (line.Now t) = false
 is_later (line.Measure name id time value seed) = false
 is_later (line.Upload report) = false
-is_later (line.Collect name start) = false
+is_later (line.Collect name span) = false
 is_later (line.Restart node) = true
 
 -- the first such line of these, of which the first is number n
@@ -31,16 +33,16 @@ later_from n (l ∷ lines) = if is_later l then Some n else later_from (n + 1) l
 abbrev pub later_line_of : List Line → Option ℕ
 later_line_of lines = later_from 1 lines
 
--- the first line with which more than 16 tasks are known, where so many are known with line n and these follow it
+-- the first line with which too many tasks are known, where so many are known with line n and these follow it
 abbrev pub full_from : ℕ → ℕ → List Line → Option ℕ
-full_from known n [] = if nat_lt 16 known then Some n else None
-full_from known n (l ∷ lines) = if nat_lt 16 known then Some n else full_from (known + length (task_name l)) (n + 1) lines
+full_from known n [] = if nat_lt MAX_TASKS known then Some n else None
+full_from known n (l ∷ lines) = if nat_lt MAX_TASKS known then Some n else full_from (known + length (task_name l)) (n + 1) lines
 
--- the first line with which more than 16 tasks are known, counted from 1, or 0 where the given ones are more
+-- the first line with which too many tasks are known, counted from 1, or 0 where the given ones are too many
 abbrev pub full_line_of : List PlainTask → List Line → Option ℕ
 full_line_of given lines = full_from (length given) 0 lines
 
--- the lines, if no more than 16 tasks are known
+-- the lines, if not too many tasks are known
 abbrev pub with_few_tasks : List PlainTask → List Line → Result (List Line) Status
 with_few_tasks given lines = option_map_or (λ n. Err (Limit n 1)) (full_line_of given lines) (Ok lines)
 
@@ -57,14 +59,14 @@ with_lines given (Err n) = Err (ScriptRefused n)
 -- lines, a line that is refused, one that isn't run yet, too many tasks.
 abbrev pub lines_run : List PlainTask → List ℕ → Result (List Line) Status
 lines_run given script =
-    if nat_lt 67108864 (length script) then Err (Limit 0 5)
-    else (if is_longer script 1000000 then Err (Limit 1000001 4)
+    if nat_lt LONGEST_SCRIPT (length script) then Err (Limit 0 5)
+    else (if is_longer script MAX_LINES then Err (Limit (MAX_LINES + 1) 4)
     else with_lines given (script_beside (names_of given) script))
 
 -- ---- limit 1 in other words
 
--- more than 16 tasks are known with this line, 0 for the given ones alone, and with no line before it
+-- too many tasks are known with this line, 0 for the given ones alone, and with no line before it
 pub record IsFull (given : List PlainTask) (lines : List Line) (n : ℕ) : Type 0 where
   pub within : n ≤ length lines
-  pub full : 16 < length given + length (task_names (take n lines))
-  pub first : (k : ℕ) → k < n → length given + length (task_names (take k lines)) ≤ 16
+  pub full : MAX_TASKS < length given + length (task_names (take n lines))
+  pub first : (k : ℕ) → k < n → length given + length (task_names (take k lines)) ≤ MAX_TASKS

@@ -27,6 +27,7 @@ fn task_lines(alloc: Global, tasks: &[Task]) -> Result<Vec<u8>, AllocError>
             &task.kind,
             task.min,
             task.precision,
+            task.expires,
             &mut text,
         )?;
     }

@@ -6,16 +6,16 @@ ghost use Rattle.dap_program.specs.Lines.{names_of, is_later, later_line_of, ful
 ghost use Rattle.dap_program.specs.Runs.{Plans};
 
 use crate::status::Status;
-use dap_bytes::Name;
+use dap_bytes::{LONGEST_SCRIPT, Name};
 use dap_script::{Line, is_longer, read_script_beside};
 use dap_tasks::Task;
 use std::alloc::{AllocError, Global};
 
 /// How many tasks are known in a run at most: limit 1.
-const MAX_TASKS: usize = 16;
+pub const MAX_TASKS: usize = 16;
 
 /// How many lines a script has at most: limit 4.
-const MAX_LINES: u32 = 1_000_000;
+pub const MAX_LINES: u32 = 1_000_000;
 
 fn names_of(alloc: Global, tasks: &[Task]) -> Result<Vec<Name>, AllocError>
     ensures { IfOk result (λ names. names.items ≡ names_of tasks.now) }
@@ -67,9 +67,9 @@ fn full_line(given: &[Task], lines: &[Line]) -> Option<u32>
     None
 }
 
-/// The lines of a script of at most 67,108,864 bytes, if they are run beside the given tasks.
+/// The lines of a script of at most `LONGEST_SCRIPT` bytes, if they are run beside the given tasks.
 pub fn lines_run(alloc: Global, given: &[Task], script: &[u8]) -> Result<Vec<Line>, Status>
-    requires { length script.now ≤ 67108864 }
+    requires { length script.now ≤ LONGEST_SCRIPT }
     ensures lines { Plans result given.now script.now }
     ensures script { IfOk result (λ lines. IsScriptBeside (names_of given.now) lines.items) }
     ensures count { IfOk result (λ lines. length lines.items ≤ length script.now) }

@@ -18,6 +18,7 @@ use crate::given::file_tasks;
 use crate::lines::lines_run;
 use crate::status::Status;
 use crate::transfer::{read_all, write_all};
+use dap_bytes::LONGEST_SCRIPT;
 use dap_direct::{RunFault, printed_text};
 use dap_model::Limits;
 use dap_outside::{Files, Sink, Source};
@@ -60,14 +61,14 @@ fn run_lines<K: Sink>(
     }
 }
 
-/// Runs a script of at most 67,108,864 bytes and prints what its lines print.
+/// Runs a script of at most `LONGEST_SCRIPT` bytes and prints what its lines print.
 fn run_script<K: Sink>(
     alloc: Global,
     given: Vec<Task>,
     script: &[u8],
     out: &mut K,
 ) -> Result<(), Status>
-    requires size { length script.now ≤ 67108864 }
+    requires size { length script.now ≤ LONGEST_SCRIPT }
     requires distinct { AreDistinct given.items }
     ensures ends { Ends (status_after result) (K.held out.old) (K.held out.new)
         (lines_outcome given.items (lines_run given.items script.now)) }

@@ -6,11 +6,9 @@ ghost use Rattle.dap_bytes.specs.Causes.{Counts};
 ghost use Rattle.dap_program.specs.Transfer.{AppendsPart, IsReadStop, TakesIn};
 
 use crate::status::Status;
+use dap_bytes::LONGEST_SCRIPT;
 use dap_outside::{Sink, SinkFault, Source};
 use std::alloc::Global;
-
-/// How many bytes a script has at most.
-const MAX_BYTES: usize = 67_108_864;
 
 /// Takes some more bytes in.
 fn read_some<S: Source>(
@@ -33,16 +31,16 @@ fn read_some<S: Source>(
 pub fn read_all<S: Source>(alloc: Global, source: &mut S) -> Result<Vec<u8>, Status>
     ensures whole { IfOk result (λ bytes. IfSome (S.left source.old) (λ input. bytes.items ≡ input)) }
     ensures end { OnOk result (IsAtEnd (S.left source.new)) }
-    ensures size { IfOk result (λ bytes. length bytes.items ≤ 67108864) }
+    ensures size { IfOk result (λ bytes. length bytes.items ≤ LONGEST_SCRIPT) }
 
     // Nothing but a fault, a script that is too long and want of memory stops it. A fault is answered as one.
     ensures only { IfErr result IsReadStop }
     ensures faults { Counts (IsErrOf result Status.ReadFault) (S.faults source.old) (S.faults source.new) }
-    ensures limit { IsErrOf result (Status.Limit 0 5) → IfSome (S.left source.old) (λ input. 67108864 < length input) }
+    ensures limit { IsErrOf result (Status.Limit 0 5) → IfSome (S.left source.old) (λ input. LONGEST_SCRIPT < length input) }
 {
     let mut bytes = Vec::new(alloc);
     let mut buf = vec![in alloc; 0u8; 4096]?;
-    while bytes.len() <= MAX_BYTES {
+    while bytes.len() <= LONGEST_SCRIPT {
         if read_some(source, &mut buf, &mut bytes)? == 0 {
             return Ok(bytes);
         }

@@ -3,6 +3,15 @@
 use super::{ONE_TASK, THREE_REPORTS, check_call, task_lines};
 use std::test::Fail;
 
+/// A file of one task that expires after all times.
+const LATE: &str = "[[task]]
+name = \"v\"
+kind = \"count\"
+min = 1
+precision = 1
+expires = 1000000000000000000
+";
+
 /// The file of one task without its minimum.
 const NO_MIN: &str = "[[task]]
 name = \"v\"
@@ -16,6 +25,7 @@ kind = \"sum\"
 bits = 8
 min = 1
 precision = 10
+expires = 0
 verify = \"00000000000000000000000000000000\"
 leader = \"0000000000000000000000000000000000000000000000000000000000000000\"
 helper = \"0000000000000000000000000000000000000000000000000000000000000000\"
@@ -25,6 +35,7 @@ kind = \"histogram\"
 bounds = [0, 10, 9223372036854775807]
 min = 1000000
 precision = 1000000000
+expires = 999999999999999999
 verify = \"FFffffffffffffffffffffffffffffff\"
 leader = \"0000000000000000000000000000000000000000000000000000000000000000\"
 helper = \"0000000000000000000000000000000000000000000000000000000000000000\"
@@ -36,7 +47,9 @@ fn a_check_prints_the_lines_of_the_tasks(rt: HostRuntime) -> Result<(), Fail> {
         (ONE_TASK, "task v count 3 3600\n"),
         (
             TWO,
-            "task s sum 8 1 10\ntask h-1_ histogram 0,10,9223372036854775807 1000000 1000000000\n",
+            "task s sum 8 1 10 expires 0
+task h-1_ histogram 0,10,9223372036854775807 1000000 1000000000 expires 999999999999999999
+",
         ),
         ("task = []", ""),
     ];
@@ -59,6 +72,7 @@ fn a_check_prints_the_lines_of_the_tasks(rt: HostRuntime) -> Result<(), Fail> {
 fn a_faulty_task_file_is_refused(rt: HostRuntime) -> Result<(), Fail> {
     let cases = [
         (NO_MIN, "tasks refused: task 1 field min"),
+        (LATE, "tasks refused: task 1 field expires"),
         ("task = [1]", "tasks refused: task 0 field file"),
     ];
     for (file, text) in &cases {

@@ -6,7 +6,7 @@ use std::alloc::Global;
 use std::test::Fail;
 
 /// Scripts and what they print.
-const PRINTED: [(&str, &str); 22] = [
+const PRINTED: [(&str, &str); 29] = [
     (
         THREE_REPORTS,
         "collected v 0 reports 3 rejected 0 count 2\n",
@@ -192,6 +192,116 @@ collect v 0
     ("upload AAAA\n", "refused 1 form\n"),
     ("upload AXgA\n", "refused 1 task\n"),
     ("task x count 1 1\nupload AXgA\n", "refused 2 form\n"),
+    // A batch of three buckets, of which the first two are too few; no bucket of it is collected alone or takes a report.
+    (
+        "task v count 3 3600
+measure v 00000000000000000000000000000001 10 1 00000000000000000000000000000001
+measure v 00000000000000000000000000000002 3700 0 00000000000000000000000000000002
+measure v 00000000000000000000000000000003 7300 1 00000000000000000000000000000003
+collect v 0 2
+collect v 0 3
+collect v 3600
+measure v 00000000000000000000000000000004 3601 1 00000000000000000000000000000004
+collect v 0 3
+",
+        "small v 0 2 reports 2
+collected v 0 3 reports 3 rejected 0 count 2
+refused 7 overlap 0 3
+refused 8 collected
+collected v 0 3 reports 3 rejected 0 count 2
+",
+    ),
+    // One bucket may be said or left out.
+    (
+        "task v count 1 10\nmeasure v 00000000000000000000000000000001 10 1 00000000000000000000000000000001\ncollect v 10 1\ncollect v 10\n",
+        "collected v 10 reports 1 rejected 0 count 1\ncollected v 10 reports 1 rejected 0 count 1\n",
+    ),
+    // The last bucket begins after all times, and at the last time.
+    (
+        "task w count 1 1000000000\ncollect w 999999999000000000 2\ncollect w 999999999000000000 1\n",
+        "refused 2 start\nsmall w 999999999000000000 reports 0\n",
+    ),
+    (
+        "task w count 1 1\ncollect w 999999999999999936 64\ncollect w 999999999999999937 64\n",
+        "small w 999999999999999936 64 reports 0\nrefused 3 start\n",
+    ),
+    // Batches that share a bucket, of which the one that starts first is named; another task's are its own.
+    (
+        "task v sum 8 1 10
+task w sum 8 1 10
+measure v 00000000000000000000000000000001 45 7 00000000000000000000000000000001
+measure v 00000000000000000000000000000002 19 5 00000000000000000000000000000002
+measure w 00000000000000000000000000000003 25 3 00000000000000000000000000000003
+collect v 40 2
+collect v 10 2
+collect v 0 64
+collect v 20
+collect v 30
+collect v 50 1
+collect v 20 2
+collect w 0 64
+collect v 10
+measure v 00000000000000000000000000000004 29 1 00000000000000000000000000000004
+measure v 00000000000000000000000000000005 30 2 00000000000000000000000000000005
+measure v 00000000000000000000000000000006 60 4 00000000000000000000000000000006
+collect v 30 1
+collect v 60
+collect v 10 2
+collect w 639
+",
+        "collected v 40 2 reports 1 rejected 0 sum 7
+collected v 10 2 reports 1 rejected 0 sum 5
+refused 8 overlap 10 2
+refused 9 overlap 10 2
+small v 30 reports 0
+refused 11 overlap 40 2
+refused 12 overlap 10 2
+collected w 0 64 reports 1 rejected 0 sum 3
+refused 14 overlap 10 2
+refused 15 collected
+collected v 30 reports 1 rejected 0 sum 2
+collected v 60 reports 1 rejected 0 sum 4
+collected v 10 2 reports 1 rejected 0 sum 5
+refused 21 start
+",
+    ),
+    // A task takes no more reports from its expiry on, and a report that it has is accepted still.
+    (
+        "task v count 1 3600 expires 50
+now 49
+measure v 00000000000000000000000000000001 10 1 00000000000000000000000000000001
+now 50
+measure v 00000000000000000000000000000002 20 1 00000000000000000000000000000002
+measure v 00000000000000000000000000000001 10 1 00000000000000000000000000000001
+collect v 0
+",
+        "refused 5 expired
+collected v 0 reports 1 rejected 0 count 1
+",
+    ),
+    // What is early is called so first; what has expired is called so before it is in conflict or its bucket collected.
+    (
+        "task v count 1 10 expires 0
+measure v 00000000000000000000000000000001 5 1 00000000000000000000000000000001
+collect v 0
+now 0
+measure v 00000000000000000000000000000002 301 1 00000000000000000000000000000002
+measure v 00000000000000000000000000000002 300 1 00000000000000000000000000000002
+measure v 00000000000000000000000000000001 5 0 00000000000000000000000000000001
+measure v 00000000000000000000000000000003 5 0 00000000000000000000000000000003
+measure v 00000000000000000000000000000001 5 1 00000000000000000000000000000001
+measure v 00000000000000000000000000000004 5 2 00000000000000000000000000000004
+collect v 0
+",
+        "collected v 0 reports 1 rejected 0 count 1
+refused 5 early
+refused 6 expired
+refused 7 expired
+refused 8 expired
+refused 10 value
+collected v 0 reports 1 rejected 0 count 1
+",
+    ),
 ];
 
 #[test]
@@ -238,7 +348,7 @@ fn the_widest_histogram_has_1024_numbers(rt: HostRuntime) -> Result<(), Fail> {
 }
 
 /// Scripts that aren't run, and the status.
-const STOPPED: [(&str, (u8, &str)); 9] = [
+const STOPPED: [(&str, (u8, &str)); 12] = [
     (
         "task v count 3 3600\nmeasur v\n",
         (3, "script refused: line 2"),
@@ -261,6 +371,18 @@ const STOPPED: [(&str, (u8, &str)); 9] = [
     ("#\n\nrestart helper", (13, "not yet: line 3")),
     ("upload Zg=\n", (3, "script refused: line 1")),
     ("now 1000000000000000000\n", (3, "script refused: line 1")),
+    (
+        "task v count 1 1\ncollect v 0 65\n",
+        (3, "script refused: line 2"),
+    ),
+    (
+        "task v count 1 1\ncollect v 0 0\n",
+        (3, "script refused: line 2"),
+    ),
+    (
+        "task v count 1 1 expires 1000000000000000000\n",
+        (3, "script refused: line 1"),
+    ),
 ];
 
 #[test]
@@ -339,4 +461,13 @@ fn a_load_is_printed_and_run(rt: HostRuntime) -> Result<(), Fail> {
     let load = str::from_utf8(load.as_slice()).expect(&rt, "a load is ASCII");
     let sums = "collected load 0 reports 100 rejected 0 sum 329050\nsmall load 3600 reports 0\n";
     check_call(&rt, alloc, &["run"], &[], load, done, sums)
+}
+
+#[test]
+fn a_thousand_measurements_are_run(rt: HostRuntime) -> Result<(), Fail> {
+    let alloc = rt.alloc();
+    let load = load_script(alloc, 1000, 1)?;
+    let load = str::from_utf8(load.as_slice()).expect(&rt, "a load is ASCII");
+    let sums = "collected load 0 reports 1000 rejected 0 sum 29271748\nsmall load 3600 reports 0\n";
+    check_call(&rt, alloc, &["run"], &[], load, (0, "done"), sums)
 }

@@ -42,7 +42,7 @@ returns g c =
     let counted = counted_as f task new c.in_ok-outs.outs old sums place x y (g.V.Vdaf.functions c.args.vdaf.now)
     c.requires.kind c.requires.of_task ready c.index_mut-sums.ensures.value
     c.in_ok-outs.ensures.outs c.in_ok-outs.ensures.content c.count.ensures in
-    let laws = (g.met.V.Vdaf.kind_laws task.kind (subst (λ (t : PlainTask). IsKind t.kind) c.task.view_is c.task.invariant.kind_ranges)).space in
+    let laws = (g.met.V.Vdaf.kind_laws task.kind (subst (λ (t : PlainTask). IsKind t.kind) c.task.view_is c.task.invariant.0.kind_ranges)).space in
     let accepted : c.push.new.self ≡ acc ++ new ∷ [] = c.in_ok-push.ensures in
     record {
       accepted = accepted;
