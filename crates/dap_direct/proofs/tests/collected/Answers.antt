@@ -3,6 +3,7 @@ use Rattle.std.specs.Prelude.{map}
 use Rattle.std.specs.List.{IsDistinct}
 use Rattle.std.specs.Str.{bytes_eq}
 use Rattle.std.proofs.lemmas.List.Elements.{All-from_recursion}
+use Rattle.dap_bytes.specs.Spans.{one_bucket}
 use Rattle.dap_script.specs.Spelling.{IsInRange}
 use Rattle.dap_script.specs.declared.line.Line.TheVariants.{Collect}
 use Rattle.dap_tasks.specs.Task.{PlainTask}
@@ -18,7 +19,8 @@ one_name name = (tt, tt)
 
 pub printed_text-requires-clause-script : goal.printed_text-requires-clause-script
 printed_text-requires-clause-script c = record {
-  in_range = All-from_recursion IsInRange (Collect c.given.inside.name 0 ∷ []) ((c.as_bytes-bytes.ensures.name, omega arith), tt);
+  in_range = All-from_recursion IsInRange (Collect c.given.inside.name (one_bucket 0) ∷ [])
+      ((c.as_bytes-bytes.ensures.name, omega arith, (omega arith, omega arith)), tt);
   distinct = no_name;
 }
 
