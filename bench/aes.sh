@@ -1,15 +1,14 @@
 #!/usr/bin/env bash
 # Times `Key::encrypt` and the stream as they are compiled, beside a table AES in plain Rust.
 #
-#   bench/aes.sh FOLDER [ROUNDS]
+#   bench/aes.sh [ROUNDS]
 #
-# FOLDER holds prio3.rs, whose `bench` prints a line `aes chained blocks N ns`. Both programs
+# The plain program is bench/peer/prio3.rs, whose `bench` prints a line `aes chained blocks N ns`. Both programs
 # encrypt a chain of a million blocks, in turns; the best of ROUNDS rounds (5) counts. The script
 # reports the times and their ratio, and asserts nothing.
 set -euo pipefail
 
-yardstick=$(cd "${1:?the folder of the yardstick}" && pwd)
-rounds=${2:-5}
+rounds=${1:-5}
 repository=$(cd "$(dirname "$0")/.." && pwd)
 scratch=$(mktemp -d)
 trap 'rm -rf "$scratch"' EXIT
@@ -62,11 +61,11 @@ END
     cat "$scratch/build.log"
     exit 1
 }
-rustc -O "$yardstick/prio3.rs" -o "$scratch/yardstick" 2>/dev/null
+rustc -O "$repository/bench/peer/prio3.rs" -o "$scratch/peer" 2>/dev/null
 
 for _ in $(seq "$rounds"); do
     "$scratch/crates/aes_bench/out/aes_bench" >>"$scratch/ours"
-    "$scratch/yardstick" bench 1 | sed -n 's/^aes chained blocks \(.*\) ns$/\1/p' >>"$scratch/theirs"
+    "$scratch/peer" bench 1 | sed -n 's/^aes chained blocks \(.*\) ns$/\1/p' >>"$scratch/theirs"
 done
 
 awk -v theirs="$scratch/theirs" '
@@ -75,6 +74,6 @@ awk -v theirs="$scratch/theirs" '
         while ((getline line <theirs) > 0) if (best == "" || line < best) best = line + 0
         printf "encrypt    %7.1f ns a block\n", chained / 1e6
         printf "stream     %7.1f ns a block\n", stream / 1e6
-        printf "yardstick  %7.1f ns a block\n", best
-        printf "ratio of encrypt to the yardstick %.2f\n", chained / 1e6 / best
+        printf "peer       %7.1f ns a block\n", best
+        printf "ratio of encrypt to the peer %.2f\n", chained / 1e6 / best
     }' "$scratch/ours"

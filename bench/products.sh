@@ -1,11 +1,10 @@
 #!/usr/bin/env bash
 # Times products of the two fields, by form and by doubling, beside plain Rust, in one sitting.
-#   bench/products.sh YARDSTICK
-# YARDSTICK is the folder of the plain Rust program prio3.rs, whose fields are F64 and F128. The script writes a program in
+#   bench/products.sh
+# The plain program is bench/peer/prio3.rs, whose fields are F64 and F128. The script writes a program in
 # each language into a scratch folder, runs both, and prints nanoseconds per product. It asserts no time; it fails only
 # where the two languages disagree on the last product of a chain. Needs rt and rustc.
 set -eu
-yardstick=${1:?the folder of the plain Rust program}
 top=$(cd "$(dirname "$0")/.." && pwd)
 scratch=$(mktemp -d)
 trap 'rm -rf "$scratch"' EXIT
@@ -73,7 +72,7 @@ fn main(rt: HostRuntime) -> io::Result<()> {
 TEXT
 : > "$scratch/rattle/crates/products/stdout"
 
-sed 's/^fn main()/fn yardstick_main()/' "$yardstick/prio3.rs" > "$scratch/products.rs"
+sed 's/^fn main()/fn peer_main()/' "$top/bench/peer/prio3.rs" > "$scratch/products.rs"
 cat >> "$scratch/products.rs" <<'TEXT'
 
 /// The element of a number below p.

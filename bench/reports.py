@@ -1,18 +1,20 @@
 #!/usr/bin/env python3
 """Times the program on generated scripts of one task each, in reports per second, beside a peer.
 
-    bench/reports.py [PEER] [--rounds N]
+    bench/reports.py [--rounds N]
 
 A script measures 1,000, 5,000 or 20,000 reports of a count, of a sum of 16 bits or of a histogram with 4 buckets, whose
 times fall into two batches, and collects the batches. Each time is the best of some rounds, of the whole program, from
-its start to its end. PEER is a program of the same arithmetic without proofs: called as `PEER bench N`, it prints for
-each kind a line whose first word begins with the kind's name, and which ends its rate of sharding and preparing both
-halves with `all NUMBER/s`. It neither seals nor reads reports, keeps no batches and reads no script. The growth is how
+its start to its end. The peer, bench/peer/prio3.rs, does the same arithmetic without proofs, and is compiled where rustc
+is there: called with `bench N`, it prints for each kind a line whose first word begins with the kind's name, and which
+ends its rate of sharding and preparing both halves with `all NUMBER/s`. It neither seals nor reads reports, keeps no
+batches and reads no script. The growth is how
 much a report costs in comparison with the same kind's shortest script. Nothing is asserted.
 """
 
 import argparse
 import re
+import shutil
 import subprocess
 import sys
 import tempfile
@@ -50,9 +52,15 @@ def best_time(path, rounds):
     return min(times)
 
 
-def peer_rates(peer):
-    """The peer's reports per second for each kind."""
-    told = subprocess.run([peer, "bench", "5000"], capture_output=True, check=True, text=True).stdout
+def peer_rates():
+    """The peer's reports per second for each kind; none where there is no rustc."""
+    if shutil.which("rustc") is None:
+        return {}
+    with tempfile.TemporaryDirectory() as scratch:
+        peer = Path(scratch) / "peer"
+        source = TOP / "bench" / "peer" / "prio3.rs"
+        subprocess.run(["rustc", "-O", "-A", "warnings", source, "-o", peer], capture_output=True, check=True)
+        told = subprocess.run([peer, "bench", "5000"], capture_output=True, check=True, text=True).stdout
     rates = {}
     for line in told.splitlines():
         rate = re.search(r"\ball +(\d+)/s", line)
@@ -64,11 +72,10 @@ def peer_rates(peer):
 
 def main():
     parser = argparse.ArgumentParser(description=__doc__, formatter_class=argparse.RawDescriptionHelpFormatter)
-    parser.add_argument("peer", nargs="?", help="the program to compare with")
     parser.add_argument("--rounds", type=int, default=3)
     given = parser.parse_args()
-    subprocess.run([TOP / "dap", "--version"], capture_output=True, check=True)
-    rates = peer_rates(given.peer) if given.peer else {}
+    subprocess.run([TOP / "dap", "run"], input=b"", capture_output=True, check=True)
+    rates = peer_rates()
     print(f"{'kind':<10} {'reports':>8} {'seconds':>9} {'reports/s':>10} {'growth':>7} {'peer/s':>9} {'ratio':>6}")
     with tempfile.TemporaryDirectory() as folder:
         for name, words, value in KINDS:

@@ -1,17 +1,17 @@
 #!/usr/bin/env python3
 """Runs the program and an independent one on generated task files and scripts, and tells where they differ.
 
-    checks/compare_scripts.py REFERENCE [--scripts N] [--seed N] [--word WORD]..
+    checks/compare_scripts.py [REFERENCE] [--scripts N] [--seed N]
 
-REFERENCE is the path of a Python program with three commands: `run [--tasks FILE] -` with a script on its standard input
-and `check FILE` print what the program must print, put the text of the status on standard error and end with its number,
-each with the given words behind it; `report --task-line LINE ID TIME VALUE SEED` and `report --tasks FILE --name NAME ID
-TIME VALUE SEED` print an honest report in base64. Each pair of a file and a script is drawn from the seed and its number:
-several tasks of every kind, some of the file's and some of the script's, with an expiry or without, measurements and
-uploads with repeats, conflicts, changed bytes and values out of range, moments, collections of one bucket or of several in
-any order, blank lines, comments and carriage returns, and now and then a file or a line that is refused or isn't run
-yet. With --one-bucket no collection has several. Nothing is run in the gate: this takes
-minutes.
+REFERENCE, checks/reference/reference.py where none is given, is the path of a Python program with three commands:
+`run [--tasks FILE] -` with a script on its standard input and `check FILE` print what the program must print, put the
+text of the status on standard error and end with its number; `report --task-line LINE ID TIME VALUE SEED` and `report
+--tasks FILE --name NAME ID TIME VALUE SEED` print an honest report in base64. Each pair of a file and a script is
+drawn from the seed and its number: several tasks of every kind, some of the file's and some of the script's, with an
+expiry or without, measurements and uploads with repeats, conflicts, changed bytes and values out of range, moments,
+collections of one bucket or of several in any order, blank lines, comments and carriage returns, and now and then a
+file or a line that is refused or isn't run yet. With --one-bucket no collection has several. Nothing is run in the
+gate: this takes minutes.
 """
 
 import argparse
@@ -263,9 +263,8 @@ def run(command, script=b""):
 class Comparison:
     """Compares what both programs answer, and counts."""
 
-    def __init__(self, reference, words):
+    def __init__(self, reference):
         self.reference = [sys.executable, str(reference)]
-        self.words = words
         self.statuses = {}
         self.differ = 0
 
@@ -278,7 +277,7 @@ class Comparison:
         return report
 
     def compare(self, what, ours, theirs, script=b""):
-        ours, theirs = run([str(PROGRAM), *ours], script), run([*self.reference, *theirs, *self.words], script)
+        ours, theirs = run([str(PROGRAM), *ours], script), run([*self.reference, *theirs], script)
         self.statuses[theirs[0]] = self.statuses.get(theirs[0], 0) + 1
         if ours != theirs:
             self.differ += 1
@@ -287,15 +286,14 @@ class Comparison:
 
 def main():
     parser = argparse.ArgumentParser(description=__doc__.splitlines()[0])
-    parser.add_argument("reference", type=Path)
+    parser.add_argument("reference", type=Path, nargs="?", default=TOP / "checks" / "reference" / "reference.py")
     parser.add_argument("--scripts", type=int, default=200)
     parser.add_argument("--seed", type=int, default=0)
-    parser.add_argument("--word", action="append", default=[], help="a further word for the commands run and check")
     parser.add_argument("--one-bucket", action="store_true", help="no collection of several buckets")
     given = parser.parse_args()
     # This builds the program where that is still to be done.
-    subprocess.run([str(TOP / "dap"), "--version"], capture_output=True, check=True)
-    files, scripts = (Comparison(given.reference, given.word) for _ in range(2))
+    subprocess.run([str(TOP / "dap"), "run"], input=b"", capture_output=True, check=True)
+    files, scripts = (Comparison(given.reference) for _ in range(2))
     with tempfile.TemporaryDirectory() as folder:
         path = str(Path(folder) / "tasks")
         for number in range(given.scripts):

@@ -3,7 +3,7 @@
 # number, what stands on standard output and what is told on standard error. It isn't part of .ci/run.
 set -u
 top=$(cd "$(dirname "${BASH_SOURCE[0]}")/.." && pwd) || exit 1
-"$top/dap" --version >/dev/null || exit 1
+"$top/dap" run </dev/null || exit 1
 errors=$(mktemp) || exit 1
 failed=0
 

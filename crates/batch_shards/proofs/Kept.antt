@@ -60,6 +60,13 @@ pub written : (es after : Entries) (kept : Kept) (name : List ℕ) (start : ℕ)
 written es after kept name start b is updates =
     inserted batch_order-total batch_order-same es after (name, start) b updates ∙ ap (λ m. changed m name start b) is
 
+-- and where what was there is changed by a function
+pub changed_by : (f : Bucket → Bucket) (es after : Entries) (kept : Kept) (name : List ℕ) (start : ℕ) (b c : Bucket) → map.from_entries es ≡ kept → Some b ≡ entry_of es name start
+    → ((q : Batch) → lookup (λ k. is_eq (batch_order q k)) after ≡ cond (is_eq (batch_order (name, start) q)) (Some c) (lookup (λ k. is_eq (batch_order q k)) es))
+    → c ≡ f b → map.from_entries after ≡ changed kept name start (f (bucket_of kept name start))
+changed_by f es after kept name start b c is found updates by =
+    written es after kept name start c is updates ∙ ap (changed kept name start) (by ∙ ap f (sym (held es kept name start b is found)))
+
 -- and where it was written as it was
 pub rewritten : (es after : Entries) (kept : Kept) (name : List ℕ) (start : ℕ) (b c : Bucket) → map.from_entries es ≡ kept → Some b ≡ entry_of es name start
     → after ≡ set_value (λ k. is_eq (batch_order (name, start) k)) es c → c ≡ b → map.from_entries after ≡ kept
@@ -77,6 +84,10 @@ on-ok (Err fault) f p = tt
 pub on-err : {E P Q : Type 0} (r : Result (Unit {0}) E) → (P → Q) → OnErr r P → OnErr r Q
 on-err (Ok done) f p = tt
 on-err (Err fault) f p = f p
+
+pub on-any : {E P : Type 0} (r : Result (Unit {0}) E) → P → OnErr r P
+on-any (Ok done) p = tt
+on-any (Err fault) p = p
 
 -- a new bucket isn't closed
 pub opens-new : (r : Result (Unit {0}) BucketFault) (b : Bucket) → b ≡ nothing → (r ≡ Err Closed → ⊥) → Opens r b.closed

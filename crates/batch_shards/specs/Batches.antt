@@ -1,5 +1,5 @@
 -- The batches of all tasks.
-use Rattle.std.specs.Prelude.{ℕ, List, Bool, Option, unwrap_or, refl}
+use Rattle.std.specs.Prelude.{◌≢◌, ℕ, List, Bool, Option, None, unwrap_or, refl}
 use Rattle.std.specs.Ordering.{nat_cmp, ordering_then}
 use Rattle.std.specs.declared.cmp.Ordering.{Ordering}
 use Rattle.std.specs.Cmp.Lexicographic.{slice_cmp}
@@ -19,6 +19,10 @@ batch_order a b = ordering_then (slice_cmp nat_cmp a.0 b.0) (nat_cmp a.1 b.1)
 -- what is kept of all batches
 abbrev pub Kept : Type 0
 Kept = map.FinMap batch_order Bucket
+
+-- the batch has an entry
+abbrev pub IsHeld : Kept → List ℕ → ℕ → Type 0
+IsHeld kept name start = map.get kept (name, start) ≢ None
 
 -- what is kept of a batch
 abbrev pub bucket_of : Kept → List ℕ → ℕ → Bucket

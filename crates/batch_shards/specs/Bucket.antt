@@ -31,6 +31,11 @@ abbrev pub sum_or_zero : Space → Option (List ℕ) → List ℕ
 sum_or_zero space None = zero_share space
 sum_or_zero space (Some sum) = sum
 
+-- there is a sum, and it is an out share
+abbrev pub HasSum : Space → Option (List ℕ) → Type 0
+HasSum space None = ⊥
+HasSum space (Some sum) = IsOut space sum
+
 -- the sum, where there is one, is an out share
 abbrev pub IsSum : Space → Option (List ℕ) → Type 0
 IsSum space None = Unit {0}
@@ -46,6 +51,10 @@ with_report space id out b = record {
   closed = b.closed;
 }
 
+-- with room for a sum: the sum is noughts where there is none yet
+abbrev pub with_room : Space → Bucket → Bucket
+with_room space b = record { reports = b.reports; rejected = b.rejected; checksum = b.checksum; sum = Some (sum_or_zero space b.sum); closed = b.closed }
+
 -- with one rejected report more
 abbrev pub with_rejected : Bucket → Bucket
 with_rejected b = record { reports = b.reports; rejected = one_more b.rejected; checksum = b.checksum; sum = b.sum; closed = b.closed }
@@ -57,6 +66,10 @@ closed_for_good b = record { reports = b.reports; rejected = b.rejected; checksu
 -- the numbers that are told of it
 abbrev pub count_of : Bucket → Count
 count_of b = record { reports = b.reports; rejected = b.rejected; checksum = b.checksum; closed = b.closed }
+
+-- all that is told of it: its numbers, and the sum as an out share
+abbrev pub told_of : Space → Bucket → Count × List ℕ
+told_of space b = (count_of b, sum_or_zero space b.sum)
 
 -- a call went through an open batch, or was refused by a closed one; memory may run out for an open one alone
 abbrev pub Opens : Result (Unit {0}) BucketFault → Bool → Type 0

@@ -36,7 +36,7 @@ pub struct Bucket {
     pub rejected: u64,
     /// The checksum of the added ones' identifiers.
     pub checksum: Checksum,
-    /// The sum of the reports' out shares, none before the first.
+    /// The sum of the reports' out shares. Before the first it is none, or noughts where room was made for it.
     pub sum: Option<Bytes>,
     /// Whether nothing is taken any more.
     pub closed: bool,

@@ -3,8 +3,8 @@
 ghost use Rattle.std.specs.Prelude.{◌≡◌, ◌≢◌, ◌^◌, ◌<◌, ◌++◌, ◌∷◌, [], IfOk, List, None, OnErr, OnOk, ℕ, true, false};
 ghost use Rattle.std.specs.FinMap as map;
 ghost use Rattle.vdaf_api.specs.Vectors.{IsOut};
-ghost use Rattle.batch_shards.specs.Bucket.{closed_for_good, count_of, nothing, sum_or_zero, with_rejected, with_report, IsSum, Opens};
-ghost use Rattle.batch_shards.specs.Batches.{bucket_of, changed};
+ghost use Rattle.batch_shards.specs.Bucket.{closed_for_good, count_of, nothing, sum_or_zero, told_of, with_rejected, with_report, with_room, HasSum, IsSum, Opens};
+ghost use Rattle.batch_shards.specs.Batches.{bucket_of, changed, IsHeld};
 
 use crate::bucket::{Bucket, BucketFault};
 use crate::count::Count;
@@ -42,6 +42,32 @@ impl Buckets {
         Buckets {
             alloc,
             buckets: BTreeMap::new(alloc),
+        }
+    }
+
+    /// Makes the entry of a batch, with room for its sum, so that its reports can be counted and added in place. What is
+    /// told of each batch stays as it is. A refusal changes nothing. It takes memory for a batch that has no sum, and for
+    /// no other.
+    pub fn ready<V: Vdaf>(&mut self, vdaf: &V, name: &Name, start: u64) -> Result<(), AllocError>
+        ensures ok { OnOk result (self.new ≡ changed self.old name.now start
+            (with_room (V.functions vdaf.now).space (bucket_of self.old name.now start))) }
+        ensures told { (other : List ℕ) (later : ℕ)
+            → told_of (V.functions vdaf.now).space (bucket_of self.new other later)
+            ≡ told_of (V.functions vdaf.now).space (bucket_of self.old other later) }
+        ensures room { OnOk result (IsSum (V.functions vdaf.now).space (bucket_of self.old name.now start).sum
+            → HasSum (V.functions vdaf.now).space (bucket_of self.new name.now start).sum) }
+        ensures memory { OnErr result ((bucket_of self.old name.now start).sum ≡ None) }
+        ensures err { OnErr result (self.new ≡ self.old) }
+    {
+        let space = vdaf.space();
+        if let Some(bucket) = self.buckets.get_mut(&(*name, start)) {
+            return bucket.make_room(self.alloc, &space);
+        }
+        let mut bucket = Bucket::new();
+        bucket.make_room(self.alloc, &space)?;
+        match self.keep(name, start, bucket) {
+            Ok(()) => Ok(()),
+            Err(_) => Err(AllocError {}),
         }
     }
 
@@ -91,6 +117,34 @@ impl Buckets {
         self.keep(name, start, bucket)
     }
 
+    /// Counts a report of an open batch that has room for its sum, and adds its out share there. It takes no memory.
+    pub fn add_in_place<V: Vdaf>(&mut self, vdaf: &V, name: &Name, start: u64, id: &Id, out: &[u8])
+        requires out { IsOut (V.functions vdaf.now).space out.now }
+        requires ready { HasSum (V.functions vdaf.now).space (bucket_of self.old name.now start).sum }
+        requires open { (bucket_of self.old name.now start).closed ≡ false }
+        ensures counted { self.new ≡ changed self.old name.now start
+            (with_report (V.functions vdaf.now).space id.now out.now (bucket_of self.old name.now start)) }
+        ensures room { HasSum (V.functions vdaf.now).space (bucket_of self.new name.now start).sum }
+    {
+        let space = vdaf.space();
+        let Some(bucket) = self.buckets.get_mut(&(*name, start)) else {
+            return;
+        };
+        bucket.add_in_place(&space, id, out);
+    }
+
+    /// Counts a rejected report of an open batch that has an entry. It takes no memory.
+    pub fn reject_in_place(&mut self, name: &Name, start: u64)
+        requires held { IsHeld self.old name.now start }
+        requires open { (bucket_of self.old name.now start).closed ≡ false }
+        ensures { self.new ≡ changed self.old name.now start (with_rejected (bucket_of self.old name.now start)) }
+    {
+        let Some(bucket) = self.buckets.get_mut(&(*name, start)) else {
+            return;
+        };
+        bucket.reject_in_place();
+    }
+
     /// The numbers of a batch, zeros where nothing is held. They are below 2^32. It takes no memory.
     pub fn count(&self, name: &Name, start: u64) -> Count
         requires reports { (bucket_of self.now name.now start).reports < 2 ^ 32 }
@@ -123,6 +177,17 @@ impl Buckets {
             Ok(()) => Ok(()),
             Err(_) => Err(AllocError {}),
         }
+    }
+
+    /// Closes a batch that has an entry for good. A batch that is closed stays as it is. It takes no memory.
+    pub fn close_in_place(&mut self, name: &Name, start: u64)
+        requires { IsHeld self.old name.now start }
+        ensures { self.new ≡ changed self.old name.now start (closed_for_good (bucket_of self.old name.now start)) }
+    {
+        let Some(bucket) = self.buckets.get_mut(&(*name, start)) else {
+            return;
+        };
+        bucket.close();
     }
 
     /// The sum of a batch's out shares: noughts where it has none.

@@ -1,8 +1,8 @@
 //! Changes of one batch.
 
-ghost use Rattle.std.specs.Prelude.{◌≡◌, ◌≢◌, ◌^◌, ◌<◌, IfOk, None, OnErr, OnOk, Some};
+ghost use Rattle.std.specs.Prelude.{◌≡◌, ◌≢◌, ◌^◌, ◌<◌, IfOk, None, OnErr, OnOk};
 ghost use Rattle.vdaf_api.specs.Vectors.{IsOut, plus, SpaceLaws};
-ghost use Rattle.batch_shards.specs.Bucket.{closed_for_good, count_of, nothing, sum_or_zero, sum_with, with_rejected, with_report, IsSum, Opens};
+ghost use Rattle.batch_shards.specs.Bucket.{closed_for_good, count_of, nothing, sum_or_zero, with_rejected, with_report, with_room, HasSum, IsSum, Opens};
 
 use crate::bucket::{Bucket, BucketFault};
 use crate::count::Count;
@@ -23,6 +23,20 @@ impl Bucket {
             sum: None,
             closed: false,
         }
+    }
+
+    /// Makes room for a sum: noughts where there is none. A refusal changes nothing. It takes memory where there is no
+    /// sum, and nowhere else.
+    pub fn make_room(&mut self, alloc: Global, space: &Space) -> Result<(), AllocError>
+        requires { SpaceLaws space.now }
+        ensures ok { OnOk result (self.new ≡ with_room space.now self.old) }
+        ensures memory { OnErr result (self.old.sum ≡ None) }
+        ensures err { OnErr result (self.new ≡ self.old) }
+    {
+        if self.sum.is_none() {
+            self.sum = Some(Bytes::new(space.zero(alloc)?));
+        }
+        Ok(())
     }
 
     /// Counts a report and adds its out share to the sum. `Closed` exactly where the batch is closed. A refusal changes
@@ -46,10 +60,23 @@ impl Bucket {
         if self.closed {
             return Err(BucketFault::Closed);
         }
-        self.sum = Some(with_share(alloc, space, self.sum.take(), out)?);
+        self.make_room(alloc, space)?;
+        self.add_in_place(space, id, out);
+        Ok(())
+    }
+
+    /// Counts a report and adds its out share to the sum that is there. It takes no memory.
+    pub fn add_in_place(&mut self, space: &Space, id: &Id, out: &[u8])
+        requires space { SpaceLaws space.now }
+        requires out { IsOut space.now out.now }
+        requires ready { HasSum space.now self.old.sum }
+        ensures { self.new ≡ with_report space.now id.now out.now self.old }
+    {
+        if let Some(sum) = self.sum.take() {
+            self.sum = Some(added(space, sum, out));
+        }
         self.reports = self.reports.saturating_add(1);
         self.checksum.add(id);
-        Ok(())
     }
 
     /// Counts a rejected report. `Closed` exactly where the batch is closed, and then nothing changes. It takes no
@@ -61,10 +88,17 @@ impl Bucket {
         ensures err { OnErr result (self.new ≡ self.old) }
     {
         if !self.closed {
-            self.rejected = self.rejected.saturating_add(1);
+            self.reject_in_place();
             return Ok(());
         }
         Err(BucketFault::Closed)
+    }
+
+    /// Counts a rejected report, whether the batch is closed or not. It takes no memory.
+    pub fn reject_in_place(&mut self)
+        ensures { self.new ≡ with_rejected self.old }
+    {
+        self.rejected = self.rejected.saturating_add(1);
     }
 
     /// The numbers, where they are below 2^32.
@@ -97,26 +131,6 @@ impl Bucket {
         ensures { self.new ≡ closed_for_good self.old }
     {
         self.closed = true;
-    }
-}
-
-/// A sum with one out share more. Where there was no sum it is a copy of the out share, which alone takes memory.
-fn with_share(
-    alloc: Global,
-    space: &Space,
-    sum: Option<Bytes>,
-    out: &[u8],
-) -> Result<Bytes, AllocError>
-    requires space { SpaceLaws space.now }
-    requires out { IsOut space.now out.now }
-    requires held { IsSum space.now sum }
-    ensures sum { IfOk result (λ total. sum_with space.now sum out.now ≡ Some total) }
-    ensures out { IfOk result (λ total. IsOut space.now total) }
-    ensures err { OnErr result (sum ≡ None) }
-{
-    match sum {
-        Some(sum) => Ok(added(space, sum, out)),
-        None => Ok(Bytes::new(out.to_vec(alloc)?)),
     }
 }
 

@@ -3,8 +3,8 @@
 ghost use Rattle.std.specs.Prelude.{◌≡◌, ◌≢◌, ◌⊎◌, ◌+◌, ◌∷◌, ◌++◌, [], Bool, true, false, List, ℕ};
 ghost use Rattle.vdaf_api.specs.Vectors.{IsOut};
 ghost use Rattle.vdaf_api.specs.Totals.{total};
-ghost use Rattle.batch_shards.specs.Bucket.{closed_for_good, nothing, sum_or_zero, with_rejected, with_report};
-ghost use Rattle.batch_shards.specs.Batches.{Kept, bucket_of, changed};
+ghost use Rattle.batch_shards.specs.Bucket.{closed_for_good, nothing, sum_or_zero, told_of, with_rejected, with_report, with_room, HasSum, IsSum};
+ghost use Rattle.batch_shards.specs.Batches.{Kept, bucket_of, changed, IsHeld};
 ghost use Rattle.batch_shards.specs.declared.bucket.Bucket.{Bucket};
 ghost use Rattle.batch_shards.specs.Reports.{Report, AreOuts, outs, tally};
 
@@ -44,4 +44,28 @@ pub fn no_order_changes_a_bucket<V: Vdaf>(vdaf: &V)
     ensures { (before after : List Report) (r : Report) (rejected : ℕ) (closed : Bool)
         → tally (V.functions vdaf.now).space (before ++ r ∷ after) rejected closed
         ≡ tally (V.functions vdaf.now).space (r ∷ (before ++ after)) rejected closed }
+{}
+
+/// A law: room for a sum is no report. What is told of a batch stays, every change comes to the same with room as
+/// without it, and a batch with room keeps it through every change.
+pub fn room_is_no_report<V: Vdaf>(vdaf: &V)
+    ensures told { (b : Bucket)
+        → told_of (V.functions vdaf.now).space (with_room (V.functions vdaf.now).space b)
+        ≡ told_of (V.functions vdaf.now).space b }
+    ensures added { (id out : List ℕ) (b : Bucket) → IsOut (V.functions vdaf.now).space out
+        → with_report (V.functions vdaf.now).space id out (with_room (V.functions vdaf.now).space b)
+        ≡ with_report (V.functions vdaf.now).space id out b }
+    ensures rejected { (b : Bucket) → with_rejected (with_room (V.functions vdaf.now).space b)
+        ≡ with_room (V.functions vdaf.now).space (with_rejected b) }
+    ensures closed { (b : Bucket) → closed_for_good (with_room (V.functions vdaf.now).space b)
+        ≡ with_room (V.functions vdaf.now).space (closed_for_good b) }
+    ensures again { (b : Bucket) → HasSum (V.functions vdaf.now).space b.sum
+        → with_room (V.functions vdaf.now).space b ≡ b }
+    ensures ready { (b : Bucket) → IsSum (V.functions vdaf.now).space b.sum
+        → HasSum (V.functions vdaf.now).space (with_room (V.functions vdaf.now).space b).sum }
+    ensures stays { (id out : List ℕ) (b : Bucket) → IsOut (V.functions vdaf.now).space out
+        → HasSum (V.functions vdaf.now).space b.sum
+        → HasSum (V.functions vdaf.now).space (with_report (V.functions vdaf.now).space id out b).sum }
+    ensures held { (kept : Kept) (name : List ℕ) (start : ℕ)
+        → HasSum (V.functions vdaf.now).space (bucket_of kept name start).sum → IsHeld kept name start }
 {}

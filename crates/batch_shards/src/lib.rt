@@ -14,6 +14,7 @@ pub use buckets::Buckets;
 pub use count::Count;
 pub use laws::{
     a_bucket_is_that_of_its_reports, a_change_is_of_one_batch, no_order_changes_a_bucket,
+    room_is_no_report,
 };
 
 #[cfg(test)]

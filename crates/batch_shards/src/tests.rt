@@ -42,6 +42,8 @@ fn a_closed_batch_takes_no_more(rt: HostRuntime) -> Result<(), Fail> {
     );
     assert_eq!(rt; buckets.reject(&name, 0), Err(BucketFault::Closed));
     buckets.reject(&name, 3600)?;
+    buckets.close(&name, 10_800)?;
+    assert_eq!(rt; buckets.reject(&name, 10_800), Err(BucketFault::Closed));
     let total = buckets.total(&toy, &name, 0)?;
     assert_eq!(rt; total.as_slice(), [14, 0, 0, 0, 0, 0, 0, 0].as_slice());
     let none = buckets.total(&toy, &name, 7200)?;
@@ -73,6 +75,66 @@ fn a_batch_counts_its_reports(rt: HostRuntime) -> Result<(), Fail> {
         closed: false,
     };
     assert_eq!(rt; bucket.count(), want);
+    bucket.close();
+    assert_eq!(rt;
+        bucket.count(),
+        Count {
+            closed: true,
+            ..want
+        }
+    );
+    Ok(())
+}
+
+#[test]
+fn numbers_stand_still_at_their_end(rt: HostRuntime) -> Result<(), Fail> {
+    let toy = Toy {};
+    let out = [1, 0, 0, 0, 0, 0, 0, 0];
+    assert!(rt; toy.is_out(&out));
+    let mut bucket = Bucket::new();
+    bucket.reports = 18_446_744_073_709_551_614;
+    bucket.rejected = 18_446_744_073_709_551_614;
+    bucket.add(rt.alloc(), &toy.space(), &FIRST, &out)?;
+    bucket.reject()?;
+    assert_eq!(rt; bucket.reports, 18_446_744_073_709_551_615);
+    assert_eq!(rt; bucket.rejected, 18_446_744_073_709_551_615);
+    bucket.add(rt.alloc(), &toy.space(), &FIRST, &out)?;
+    bucket.reject()?;
+    assert_eq!(rt; bucket.reports, 18_446_744_073_709_551_615);
+    assert_eq!(rt; bucket.rejected, 18_446_744_073_709_551_615);
+    Ok(())
+}
+
+#[test]
+fn faults_are_printed(rt: HostRuntime) -> Result<(), Fail> {
+    let alloc = rt.alloc();
+    for (fault, text) in [
+        (BucketFault::Closed, "the batch is closed"),
+        (BucketFault::NoMemory, "no memory"),
+    ] {
+        assert_eq!(rt; format!(in alloc; "{fault}")?.as_str(), text);
+    }
+    Ok(())
+}
+
+#[test]
+fn a_batch_with_room_is_added_to_in_place(rt: HostRuntime) -> Result<(), Fail> {
+    let alloc = rt.alloc();
+    let name = Name::new(b"v").expect(&rt, "a name");
+    let mut buckets = Buckets::new(alloc);
+    let toy = Toy {};
+    let out = [7, 0, 0, 0, 0, 0, 0, 128];
+    assert!(rt; toy.is_out(&out));
+    buckets.ready(&toy, &name, 0)?;
+    let none = buckets.total(&toy, &name, 0)?;
+    assert_eq!(rt; none.as_slice(), [0; 8].as_slice());
+    buckets.add_in_place(&toy, &name, 0, &FIRST, &out);
+    buckets.reject_in_place(&name, 0);
+    buckets.close_in_place(&name, 0);
+    let total = buckets.total(&toy, &name, 0)?;
+    assert_eq!(rt; total.as_slice(), [7, 0, 0, 0, 0, 0, 0, 0].as_slice());
+    assert_eq!(rt; buckets.reject(&name, 0), Err(BucketFault::Closed));
+    buckets.reject(&name, 3600)?;
     Ok(())
 }
 
@@ -152,4 +214,18 @@ fn sums_are_those_of_the_fields(rt: HostRuntime) -> Result<(), Fail> {
     )?;
     let outs: [&[u128]; 3] = [&[P128 - 1, 1, 2], &[1, P128 - 1, P128 - 209], &[0, 3, 400]];
     check_sum(&rt, alloc, &space_of_128_bits(3), outs, &[0, 3, 193])
+}
+
+/// The value again. It may be moved to another thread, and shared with it.
+fn shared<T: Send + Sync>(value: T) -> T {
+    value
+}
+
+#[test]
+fn a_table_may_be_shared_with_workers(rt: HostRuntime) -> Result<(), Fail> {
+    let name = Name::new(b"v").expect(&rt, "a name");
+    let mut buckets = shared(Buckets::new(rt.alloc()));
+    buckets.close(&name, 0)?;
+    assert_eq!(rt; buckets.reject(&name, 0), Err(BucketFault::Closed));
+    Ok(())
 }

@@ -17,7 +17,7 @@ report_is a b e = cc
 text_is : (a b : List ℕ) → (let x : Option (List ℕ) = Some a in x) ≡ Some b → a ≡ b
 text_is a b e = cc
 
-name_made : (f : Functions) (t : PlainTask) (id : List ℕ) (time m : ℕ) (seed : List ℕ) (r : Report) → honest_report f t id time m seed ≡ Some r → r.name ≡ t.name
+name_made : (f : Functions) (t : PlainTask) (id : List ℕ) (time : ℕ) (m seed : List ℕ) (r : Report) → honest_report f t id time m seed ≡ Some r → r.name ≡ t.name
 name_made f t id time m seed r e = go (f.shard id m seed) e
   where
     go : (o : Option Parts) → option_map (report_of t id time) o ≡ Some r → r.name ≡ t.name
@@ -25,7 +25,7 @@ name_made f t id time m seed r e = go (f.shard id m seed) e
     go (Some p) e = ap (λ (r : Report). r.name) (sym (report_is (report_of t id time p) r e))
 
 -- bytes that are those of the honest report
-pub made_bytes : (f : Functions) (t : PlainTask) (id : List ℕ) (time m : ℕ) (seed bytes : List ℕ)
+pub made_bytes : (f : Functions) (t : PlainTask) (id : List ℕ) (time : ℕ) (m seed bytes : List ℕ)
     → option_map report.spell (honest_report f t id time m seed) ≡ Some bytes → IfSome (honest_report f t id time m seed) (λ r. IsTrue (report.allowed r))
     → AreBytesOf t.name (honest_report f t id time m seed) bytes
 made_bytes f t id time m seed bytes e allowed = go (honest_report f t id time m seed) refl e

@@ -29,7 +29,7 @@ pub offered-upload : (s : State) (k : ℕ) (bytes : List ℕ) (task : PlainTask)
 offered-upload s k bytes task r read = sym (ap (λ o. option_map_or (offered s k task) o (refused s k cause.Form)) read)
 
 -- a measurement is an upload to its task of the bytes of its report
-pub measure-upload : (f : Kind → Functions) (s : State) (k : ℕ) (name id : List ℕ) (time value : ℕ) (seed bytes : List ℕ) (task : PlainTask) (r : Report)
+pub measure-upload : (f : Kind → Functions) (s : State) (k : ℕ) (name id : List ℕ) (time : ℕ) (value seed bytes : List ℕ) (task : PlainTask) (r : Report)
     → find (has_name name) s.tasks ≡ Some task → honest_report (f task.kind) task id time value seed ≡ Some r → report_in bytes ≡ Some r
     → upload_to s k bytes task ≡ step f s k (line.Measure name id time value seed)
 measure-upload f s k name id time value seed bytes task r known made read =
@@ -37,7 +37,7 @@ measure-upload f s k name id time value seed bytes task r known made read =
     ∙ sym (ap (λ o. option_map_or (measure_of f s k id time value seed) o (refused s k cause.Task)) known
     ∙ ap (λ o. option_map_or (offered s k task) o (refused s k cause.Value)) made)
 
-pub measure-offers : (f : Kind → Functions) (tasks : List PlainTask) (name id : List ℕ) (time value : ℕ) (seed bytes : List ℕ) (task : PlainTask) (r : Report)
+pub measure-offers : (f : Kind → Functions) (tasks : List PlainTask) (name id : List ℕ) (time : ℕ) (value seed bytes : List ℕ) (task : PlainTask) (r : Report)
     → find (has_name name) tasks ≡ Some task → honest_report (f task.kind) task id time value seed ≡ Some r → report_in bytes ≡ Some r
     → report_in bytes ≡ report_offered f tasks (line.Measure name id time value seed)
 measure-offers f tasks name id time value seed bytes task r known made read =

@@ -65,7 +65,8 @@ impl Batch {
     fn or_first(&self, first: Option<Span>, task: &Task, span: &Span) -> Option<Span>
         requires buckets { HasBuckets span.now }
         requires time { span.now.start ≤ LATEST_TIME }
-        ensures { result ≡ (if shares_with task.now span.now self.now then Some (earlier_of first self.now.span) else first) }
+        ensures { result ≡ (if shares_with task.now span.now self.now then Some
+            (earlier_of first self.now.span) else first) }
     {
         if self.shares_with(task, span) {
             Some(earlier(first, self.span))

@@ -24,7 +24,8 @@ impl Direct {
         requires kind { V.functions vdaf.now ≡ V.of_kind task.now.kind }
         requires sums { HasSums V.of_kind task.now self.now }
         requires total { AreOuts (V.of_kind task.now.kind) total.old }
-        requires reports { total.old.reports + length (contents_in V.of_kind task.now start self.now.accepted) < 2 ^ 32 }
+        requires reports { total.old.reports + length
+            (contents_in V.of_kind task.now start self.now.accepted) < 2 ^ 32 }
         requires rejected { total.old.rejected + rejected_in V.of_kind task.now start self.now.accepted < 2 ^ 32 }
         ensures { JoinsBucket V.of_kind task.now start self.now.accepted total.old total.new }
     {

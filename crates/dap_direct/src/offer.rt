@@ -16,18 +16,18 @@ use dap_batch::batch_of;
 use dap_bytes::{Id, LATEST_TIME, Name};
 use dap_messages::{ReadFault, Report, read_report};
 use dap_model::Printed;
-use dap_seal::make_report;
+use dap_seal::make_list_report;
 use dap_tasks::{Cause, Judged, Task};
 use std::alloc::{AllocError, Global};
-use vdaf_api::{ShardFault, Vdaf};
+use vdaf_api::{ListVdaf, Measurement, ShardFault, Vdaf};
 
 /// A measurement that a line gives: the report's identifier, its time, the value that is measured, and the seed from which
 /// the client draws.
 #[derive(Clone, Copy, Debug)]
-pub struct Measurement {
+pub struct Measured<'a> {
     pub id: Id,
     pub time: u64,
-    pub value: u64,
+    pub value: &'a Measurement,
     pub seed: [u8; 16],
 }
 
@@ -78,23 +78,26 @@ fn none_after(fault: ShardFault) -> Result<Option<Vec<u8>>, AllocError>
 }
 
 /// The bytes of the report that an honest client makes of a measurement, if it has shares.
-pub fn honest_bytes<V: Vdaf>(
+pub fn honest_bytes<V: ListVdaf>(
     alloc: Global,
     task: &Task,
     vdaf: &V,
-    given: &Measurement,
+    given: &Measured,
 ) -> Result<Option<Vec<u8>>, AllocError>
     requires time { given.now.time ≤ LATEST_TIME }
     requires name { IsName task.now.name }
-    ensures { IfOk result (Spell task.now.name (honest_report (V.functions vdaf.now) task.now given.now.id given.now.time given.now.value given.now.seed)) }
+    ensures { IfOk result
+        (Spell task.now.name
+        (honest_report
+        (V.functions vdaf.now) task.now given.now.id given.now.time given.now.value.now given.now.seed)) }
 {
-    match make_report(
+    match make_list_report(
         alloc,
         task,
         vdaf,
         &given.id,
         given.time,
-        given.value,
+        given.value.as_slice(),
         &given.seed,
     ) {
         Ok(bytes) => Ok(Some(bytes)),

@@ -24,7 +24,9 @@ pub fn prepare<V: Vdaf>(
     task: &Task,
     report: &Report,
 ) -> Result<Option<OutShares>, AllocError>
-    ensures content { IfOk result (λ outs. content_with (V.functions vdaf.now) outs ≡ content_numbers_of (V.functions vdaf.now) task.now report.now) }
+    ensures content { IfOk result
+        (λ outs. content_with (V.functions vdaf.now) outs ≡ content_numbers_of
+        (V.functions vdaf.now) task.now report.now) }
     ensures outs { IfOk result (AreOutShares (V.functions vdaf.now)) }
 {
     let head = Head::of_report(report)?;

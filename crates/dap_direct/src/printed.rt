@@ -17,10 +17,10 @@ use dap_model::Limits;
 use dap_script::Line;
 use dap_tasks::{Task, Tasks};
 use std::alloc::Global;
-use vdaf_api::Vdaf;
+use vdaf_api::ListVdaf;
 
 /// What a script prints under these limits and these known tasks.
-fn run<V: Vdaf>(
+fn run<V: ListVdaf>(
     alloc: Global,
     limits: &Limits,
     tasks: &Tasks<V>,
@@ -28,7 +28,8 @@ fn run<V: Vdaf>(
 ) -> Result<Vec<u8>, RunFault>
     requires few { length script.now < 2 ^ 31 }
     requires range { All IsInRange script.now }
-    ensures { (given : List PlainTask) → tasks.now ≡ given ++ tasks_of script.now → RunsTo V.of_kind limits.now given script.now result }
+    ensures { (given : List PlainTask) → tasks.now ≡ given ++ tasks_of script.now
+        → RunsTo V.of_kind limits.now given script.now result }
 {
     let mut direct = Direct::new(alloc);
     let mut told = Told::new(alloc);
@@ -51,7 +52,7 @@ fn run<V: Vdaf>(
 
 /// What a script prints under these limits, where the given tasks are known beside its own. `Limit` exactly where a limit
 /// is passed, with the first line with which it is, and with the text of the segments before that line.
-pub fn printed_text<V: Vdaf>(
+pub fn printed_text<V: ListVdaf>(
     alloc: Global,
     limits: &Limits,
     given: Vec<Task>,

@@ -5,31 +5,33 @@ ghost use Rattle.dap_bytes.specs.Name.{IsName};
 ghost use Rattle.dap_script.specs.Spelling.{IsInRange};
 ghost use Rattle.dap_script.specs.declared.line.Line.TheVariants.{Measure, Upload};
 
-use crate::offer::{Measurement, honest_bytes, name_in, refused};
+use crate::offer::{Measured, honest_bytes, name_in, refused};
 use crate::state::Direct;
 use dap_bytes::{LATEST_TIME, Name};
 use dap_model::Printed;
 use dap_script::Line;
 use dap_tasks::{Cause, Tasks};
 use std::alloc::{AllocError, Global};
-use vdaf_api::Vdaf;
+use vdaf_api::{ListVdaf, Vdaf};
 
 impl Direct {
     ghost use Rattle.dap_direct.specs.Direct.{MayRun, Runs};
 
     /// Offers the report of a measurement.
-    fn measure<V: Vdaf>(
+    fn measure<V: ListVdaf>(
         &mut self,
         alloc: Global,
         tasks: &Tasks<V>,
         line: u32,
         name: &Name,
-        given: &Measurement,
+        given: &Measured,
     ) -> Result<Option<Printed>, AllocError>
         requires time { given.now.time ≤ LATEST_TIME }
         requires name { IsName name.now }
         requires may_run { MayRun V.of_kind tasks.now line self.old }
-        ensures { IfOk result (Runs V.of_kind tasks.now line (Measure name.now given.now.id given.now.time given.now.value given.now.seed) self.old self.new) }
+        ensures { IfOk result
+            (Runs V.of_kind tasks.now line
+            (Measure name.now given.now.id given.now.time given.now.value.now given.now.seed) self.old self.new) }
     {
         let Some((task, vdaf)) = tasks.find(name) else {
             return Ok(refused(line, Cause::Task));
@@ -61,7 +63,7 @@ impl Direct {
     }
 
     /// What a line changes and prints.
-    pub fn step<V: Vdaf>(
+    pub fn step<V: ListVdaf>(
         &mut self,
         alloc: Global,
         tasks: &Tasks<V>,
@@ -84,10 +86,10 @@ impl Direct {
                 value,
                 seed,
             } => {
-                let given = Measurement {
+                let given = Measured {
                     id: *id,
                     time: *time,
-                    value: *value,
+                    value,
                     seed: *seed,
                 };
                 self.measure(alloc, tasks, line, name, &given)

@@ -141,7 +141,8 @@ collect v 0
 const TAMPERED_TEXT: &str = "collected v 0 reports 1 rejected 1 sum 5
 ";
 
-/// Each report here has 88 bytes. What is refused as `task` (line 2), `form` (line 4) and `value` (line 5) isn't offered.
+/// Each report here has 88 bytes. What is refused as `task` (line 2), `form` (line 4) and `value` (lines 5
+/// and 13) isn't offered.
 const OFFERS: &str = "task v sum 16 1 100
 measure w 00000000000000000000000000000001 10 7 000102030405060708090a0b0c0d0e0f
 now 5
@@ -154,6 +155,7 @@ collect v 0
 measure w 00000000000000000000000000000002 10 7 000102030405060708090a0b0c0d0e0f
 measure v 00000000000000000000000000000001 10 7 000102030405060708090a0b0c0d0e0f
 collect v 0
+measure v 00000000000000000000000000000003 10 7,0 000102030405060708090a0b0c0d0e0f
 ";
 
 const OFFERS_TEXT: &str = "refused 2 task
@@ -163,6 +165,7 @@ refused 6 early
 collected v 0 reports 1 rejected 0 sum 7
 refused 10 task
 collected v 0 reports 1 rejected 0 sum 7
+refused 13 value
 ";
 
 /// What stands before the line 11, where a third report is offered.

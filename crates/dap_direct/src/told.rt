@@ -43,7 +43,8 @@ impl Told {
         printed: Option<Printed>,
     ) -> Result<(), AllocError>
         ensures text { OnOk result (self.new.text.items ≡ self.old.text.items ++ text_of (option_to_list printed)) }
-        ensures whole { OnOk result (self.new.whole ≡ (if ends_segment line.now then length self.new.text.items else self.old.whole)) }
+        ensures whole { OnOk result
+            (self.new.whole ≡ (if ends_segment line.now then length self.new.text.items else self.old.whole)) }
     {
         if let Some(printed) = printed {
             print_line(alloc, &printed, &mut self.text)?;

@@ -125,7 +125,7 @@ module _ (first first' : List ℕ) (events events' : List Event) (same : first' 
     sync_only c may = sym sync_same ∙ settle_only New is c may
 
 -- a disk that was just made may be left as it is alone
-pub begun_only : (bytes first : List ℕ) (events : List Event) → first ≡ bytes → events ≡ [] → Only (Some bytes) (IsImage first events)
-begun_only bytes first events same none c left =
+pub new_only : (bytes first : List ℕ) (events : List Event) → first ≡ bytes → events ≡ [] → Only (Some bytes) (IsImage first events)
+new_only bytes first events same none c left =
     let here : Allowed bytes [] c = subst (λ (f : List ℕ). Allowed f [] c) same (subst (λ (es : List Event). IsImage first es c) none left) in
     ap Some (sym (allowed_is_reached [] bytes c (length bytes) refl (inr (omega arith)) here))

@@ -1,5 +1,5 @@
 -- What the calls of a disk do to the bytes that it holds, and what a stop may leave of them.
-use Rattle.std.specs.Prelude.{◌≡◌, ◌⊎◌, ℕ, ◌+◌, ◌≤◌, min, max, List, ◌++◌, length, take, drop, Option, Some, None}
+use Rattle.std.specs.Prelude.{◌≡◌, ◌⊎◌, ℕ, ◌+◌, ◌≤◌, ◌<◌, ◌-◌, min, max, Bool, IsTrue, List, ◌++◌, length, take, drop, Option, Some, None}
 use Rattle.dap_bytes.specs.Causes.{Counts}
 use Rattle.dap_disk.specs.Images.{Change}
 
@@ -46,6 +46,25 @@ pub record Elapses (before now : ℕ) (past since : ℕ → List ℕ → Type 0)
   pub later : before ≤ now
   pub nothing_else : (t : ℕ) (c : List ℕ) → t ≤ before → since t c → past t c ⊎ may_leave c
   pub keeps : (t : ℕ) (c : List ℕ) → t ≤ before → past t c → since t c
+
+-- what a call that adds one moment does to the images of a disk
+abbrev pub AddsMoment : {D : Type 0} → (D → ℕ) → (D → ℕ → List ℕ → Type 0) → (D → List ℕ → Type 0) → D → D → Type 0
+AddsMoment moment left_since may_leave old new =
+    Elapses (moment old) (moment new) (left_since old) (left_since new) (may_leave new)
+
+-- a disk holds what it held, is up, and no image is new
+abbrev pub IsUntouched : {D : Type 0} → (D → Option (List ℕ)) → (D → Bool) → (D → List ℕ → Type 0) → D → D → Type 0
+IsUntouched holds up may_leave old new =
+    (holds new ≡ holds old) × IsTrue (up new) × NoMore (may_leave old) (may_leave new)
+
+-- a buffer has the first n bytes of c from this place on, none only past the end or where it has no room
+abbrev pub ReadsFrom : ℕ → List ℕ → List ℕ → ℕ → List ℕ → Type 0
+ReadsFrom at before now n c =
+    (take n now ≡ take n (drop at c)) × (n ≤ length c - at) × (0 < length before → at < length c → 0 < n)
+
+-- an image that comes by this step from one that was left
+abbrev pub StepFrom : (List ℕ → Type 0) → (List ℕ → List ℕ → Type 0) → List ℕ → Type 0
+StepFrom old step c = (d : List ℕ) × old d × step d c
 
 -- at every moment since old each image has P
 pub record LeavesOnly {D : Type 0} (moment : D → ℕ) (left_since : D → ℕ → List ℕ → Type 0) (old new : D) (P : List ℕ → Type 0) : Type 0 where

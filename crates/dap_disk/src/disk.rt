@@ -1,7 +1,7 @@
 //! A disk, as a trait with a written meaning.
 ghost use Rattle.std.specs.Prelude.{◌≡◌, ◌≤◌, ◌<◌, ◌-◌, ◌+◌, ◌^◌, List, ℕ, Bool, ◌⊎◌, Option, Some, length, take, drop, IfOk, OnOk, OnErr, IsErr, IsErrOf, IsTrue, false};
 ghost use Rattle.dap_disk.specs.declared.disk.StoreFault.TheVariants.{Down as StoreDown};
-ghost use Rattle.dap_disk.specs.Disk.{Tells, of_told, written, Torn, Shortened, Follows, NoMore, Only, Elapses, CountsStop, CountsDeath, Move, Looked, Changed, Synced, Refused, Restarted};
+ghost use Rattle.dap_disk.specs.Disk.{Tells, of_told, written, Torn, Shortened, Follows, NoMore, Only, AddsMoment, IsUntouched, ReadsFrom, CountsStop, CountsDeath, Move, Looked, Changed, Synced, Refused, Restarted};
 ghost use Rattle.dap_disk.specs.Images.{Written, CutTo};
 
 /// The disk has stopped. Only a restart is allowed.
@@ -66,7 +66,7 @@ pub trait Disk: Drop {
         ensures told { IfOk result (λ n. Tells (holds self.old) (λ c. n ≡ length c)) }
         ensures same { holds self.new ≡ holds self.old }
         ensures images { NoMore (may_leave self.old) (may_leave self.new) }
-        ensures time { Elapses (moment self.old) (moment self.new) (left_since self.old) (left_since self.new) (may_leave self.new) }
+        ensures time { AddsMoment moment left_since may_leave self.old self.new }
         ensures up { OnOk result (IsTrue (up self.new)) }
         ensures down { OnErr result (up self.new ≡ false) }
         ensures counts { CountsStop downs deads (IsErr result) self.old self.new }
@@ -76,10 +76,10 @@ pub trait Disk: Drop {
     fn read(&mut self, at: u64, buf: &mut [u8]) -> Result<usize, Down>
         requires { IsTrue (up self.old) }
         ensures within { IfOk result (λ n. n ≤ length buf.old) }
-        ensures told { IfOk result (λ n. Tells (holds self.old) (λ c. (take n buf.new ≡ take n (drop at c)) × (n ≤ length c - at) × (0 < length buf.old → at < length c → 0 < n))) }
+        ensures told { IfOk result (λ n. Tells (holds self.old) (ReadsFrom at buf.old buf.new n)) }
         ensures same { holds self.new ≡ holds self.old }
         ensures images { NoMore (may_leave self.old) (may_leave self.new) }
-        ensures time { Elapses (moment self.old) (moment self.new) (left_since self.old) (left_since self.new) (may_leave self.new) }
+        ensures time { AddsMoment moment left_since may_leave self.old self.new }
         ensures up { OnOk result (IsTrue (up self.new)) }
         ensures down { OnErr result (up self.new ≡ false) }
         ensures counts { CountsStop downs deads (IsErr result) self.old self.new }
@@ -92,22 +92,23 @@ pub trait Disk: Drop {
         requires within { Tells (holds self.old) (λ c. at ≤ length c) }
         ensures done { OnOk result (holds self.new ≡ of_told (written at bytes.now) (holds self.old)) }
         ensures images { Follows (Torn at (length bytes.now)) (may_leave self.old) (may_leave self.new) }
-        ensures memory { IsErrOf result StoreFault.NoMemory → (holds self.new ≡ holds self.old) × IsTrue (up self.new) × NoMore (may_leave self.old) (may_leave self.new) }
-        ensures time { Elapses (moment self.old) (moment self.new) (left_since self.old) (left_since self.new) (may_leave self.new) }
+        ensures memory { IsErrOf result StoreFault.NoMemory → IsUntouched holds up may_leave self.old self.new }
+        ensures time { AddsMoment moment left_since may_leave self.old self.new }
         ensures up { OnOk result (IsTrue (up self.new)) }
         ensures down { IsErrOf result StoreFault.Down → up self.new ≡ false }
         ensures counts { CountsStop downs deads (IsErrOf result StoreFault.Down) self.old self.new }
         ensures moves { IsErrOf result StoreFault.NoMemory ⊎ moves (Changed (Written at bytes.now)) self.old self.new }
         ensures refused { IsErrOf result StoreFault.NoMemory → moves Refused self.old self.new };
 
-    /// Cuts the file to a length. Until a sync a stop may leave any of the lengths between, and any bytes past the new end.
+    /// Cuts the file to a length. Until a sync a stop may leave any of the lengths between, and any bytes past the new
+    /// end.
     fn cut(&mut self, len: u64) -> Result<(), StoreFault>
         requires up { IsTrue (up self.old) }
         requires within { Tells (holds self.old) (λ c. len ≤ length c) }
         ensures done { OnOk result (holds self.new ≡ of_told (take len) (holds self.old)) }
         ensures images { Follows (Shortened len) (may_leave self.old) (may_leave self.new) }
-        ensures memory { IsErrOf result StoreFault.NoMemory → (holds self.new ≡ holds self.old) × IsTrue (up self.new) × NoMore (may_leave self.old) (may_leave self.new) }
-        ensures time { Elapses (moment self.old) (moment self.new) (left_since self.old) (left_since self.new) (may_leave self.new) }
+        ensures memory { IsErrOf result StoreFault.NoMemory → IsUntouched holds up may_leave self.old self.new }
+        ensures time { AddsMoment moment left_since may_leave self.old self.new }
         ensures up { OnOk result (IsTrue (up self.new)) }
         ensures down { IsErrOf result StoreFault.Down → up self.new ≡ false }
         ensures counts { CountsStop downs deads (IsErrOf result StoreFault.Down) self.old self.new }
@@ -120,7 +121,7 @@ pub trait Disk: Drop {
         ensures durable { OnOk result (Only (holds self.old) (may_leave self.new)) }
         ensures same { holds self.new ≡ holds self.old }
         ensures images { NoMore (may_leave self.old) (may_leave self.new) }
-        ensures time { Elapses (moment self.old) (moment self.new) (left_since self.old) (left_since self.new) (may_leave self.new) }
+        ensures time { AddsMoment moment left_since may_leave self.old self.new }
         ensures up { OnOk result (IsTrue (up self.new)) }
         ensures down { OnErr result (up self.new ≡ false) }
         ensures counts { CountsStop downs deads (IsErr result) self.old self.new }
@@ -131,7 +132,7 @@ pub trait Disk: Drop {
         ensures image { OnOk result (Tells (holds self.new) (may_leave self.old)) }
         ensures settled { OnOk result (Only (holds self.new) (may_leave self.new)) }
         ensures images { NoMore (may_leave self.old) (may_leave self.new) }
-        ensures time { Elapses (moment self.old) (moment self.new) (left_since self.old) (left_since self.new) (may_leave self.new) }
+        ensures time { AddsMoment moment left_since may_leave self.old self.new }
         ensures up { OnOk result (IsTrue (up self.new)) }
         ensures down { OnErr result (up self.new ≡ false) }
         ensures counts { CountsDeath downs deads (IsErr result) self.old self.new }

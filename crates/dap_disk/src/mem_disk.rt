@@ -1,6 +1,6 @@
 //! A disk in memory that stops where it is told to.
-ghost use Rattle.std.specs.Prelude.{◌≡◌, ◌≤◌, ◌<◌, ◌-◌, min, length, take, drop, Some, IfOk, OnOk, OnErr, IsErr, IsTrue, false};
-ghost use Rattle.dap_disk.specs.Disk.{Tells, NoMore, Only, Elapses, CountsStop, Looked};
+ghost use Rattle.std.specs.Prelude.{◌≡◌, ◌≤◌, ◌-◌, min, length, Some, IfOk, OnOk, OnErr, IsErr, IsTrue, false};
+ghost use Rattle.dap_disk.specs.Disk.{Tells, NoMore, Only, AddsMoment, ReadsFrom, CountsStop, Looked};
 ghost use Rattle.dap_disk.specs.History.{IsImage, WasImage};
 ghost use Rattle.dap_disk.specs.HistoryLaws.{was_now, was_only, held_is_image};
 ghost use Rattle.dap_disk.specs.StoreLaws.{held_fits};
@@ -20,7 +20,7 @@ pub struct MemDisk {
 
 impl MemDisk {
     ghost use Rattle.dap_disk.specs.Moves.{plan_of};
-    ghost use Rattle.dap_disk.specs.Plan.{begun};
+    ghost use Rattle.dap_disk.specs.Plan.{new_plan};
 
     /// A disk with these bytes, all of them synced. Its calls other than `restart` count from 1. At a listed call it
     /// answers `Down`, and the next restart leaves that stop's image. Restart number `dead_from` and all later ones
@@ -31,7 +31,7 @@ impl MemDisk {
         ensures synced { Only (Some bytes.items) (⟦<MemDisk as Disk>⟧.may_leave result) }
         ensures up { IsTrue (⟦<MemDisk as Disk>⟧.up result) }
         ensures counts { (⟦<MemDisk as Disk>⟧.downs result ≡ 0) × (⟦<MemDisk as Disk>⟧.deads result ≡ 0) }
-        ensures listed { plan_of result ≡ begun stops dead_from }
+        ensures listed { plan_of result ≡ new_plan stops dead_from }
     {
         MemDisk {
             store: Store::new(alloc, bytes),
@@ -84,13 +84,16 @@ impl Disk for MemDisk {
     fn read(&mut self, at: u64, buf: &mut [u8]) -> Result<usize, Down>
         requires { IsTrue self.old.plan.up }
         ensures within { IfOk result (λ n. n ≤ length buf.old) }
-        ensures told { IfOk result (λ n. Tells (Some (held_by self.old)) (λ c. (take n buf.new ≡ take n (drop at c)) × (n ≤ length c - at) × (0 < length buf.old → at < length c → 0 < n))) }
+        ensures told { IfOk result (λ n. Tells (Some (held_by self.old)) (ReadsFrom at buf.old buf.new n)) }
         ensures same { Some (held_by self.new) ≡ Some (held_by self.old) }
-        ensures images { NoMore (IsImage self.old.store.first.items self.old.store.events.items) (IsImage self.new.store.first.items self.new.store.events.items) }
-        ensures time { Elapses (length self.old.store.events.items) (length self.new.store.events.items) (WasImage self.old.store.first.items self.old.store.events.items) (WasImage self.new.store.first.items self.new.store.events.items) (IsImage self.new.store.first.items self.new.store.events.items) }
+        ensures images { NoMore (⟦<MemDisk as Disk>⟧.may_leave self.old) (⟦<MemDisk as Disk>⟧.may_leave self.new) }
+        ensures time { AddsMoment ⟦<MemDisk as Disk>⟧.moment ⟦<MemDisk as Disk>⟧.left_since
+            ⟦<MemDisk as Disk>⟧.may_leave
+            self.old self.new }
         ensures up { OnOk result (IsTrue self.new.plan.up) }
         ensures down { OnErr result (self.new.plan.up ≡ false) }
-        ensures counts { CountsStop ⟦<MemDisk as Disk>⟧.downs ⟦<MemDisk as Disk>⟧.deads (IsErr result) self.old self.new }
+        ensures counts { CountsStop ⟦<MemDisk as Disk>⟧.downs ⟦<MemDisk as Disk>⟧.deads
+            (IsErr result) self.old self.new }
         ensures moves { Moved Looked self.old self.new }
 
         // It reads as far as there are bytes and room, and a refused one leaves the buffer.

@@ -1,7 +1,7 @@
 //! When a disk in memory stops.
 ghost use Rattle.std.specs.Prelude.{◌≡◌, ◌≤◌, ◌+◌, ◌-◌, ◌^◌, ◌↔◌, min, true, false, Some, None, IfSome, IfNone, IsSome, IsTrue, MatchOption};
 ghost use Rattle.dap_bytes.specs.Causes.{Rose};
-ghost use Rattle.dap_disk.specs.Plan.{image_at, begun, next_stop, after_call, comes_back, after_restart};
+ghost use Rattle.dap_disk.specs.Plan.{image_at, new_plan, next_stop, after_call, comes_back, after_restart};
 
 use crate::{Image, Stop};
 
@@ -22,7 +22,7 @@ pub(crate) struct Plan {
 impl Plan {
     /// No call made yet.
     pub(crate) fn new(stops: Vec<Stop>, dead_from: Option<u64>) -> Plan
-        ensures { result ≡ begun stops dead_from }
+        ensures { result ≡ new_plan stops dead_from }
     {
         Plan {
             stops,
@@ -38,9 +38,17 @@ impl Plan {
 
     /// Counts a call, and says whether the disk stops at it.
     pub(crate) fn stops_here(&mut self) -> bool
-        ensures counted { self.new.calls ≡ min (self.old.calls + 1) (2 ^ 64 - 1) }
-        ensures goes_on { result ≡ false → (image_at self.old.stops.items self.new.calls ≡ None) × (self.new ≡ record self.old { calls = self.new.calls }) }
-        ensures stops { result ≡ true → (image_at self.old.stops.items self.new.calls ≡ Some self.new.image) × Rose self.old.downs self.new.downs × (self.new ≡ record self.old { calls = self.new.calls; image = self.new.image; up = false; downs = self.new.downs }) }
+        ensures calls { self.new.calls ≡ min (self.old.calls + 1) (2 ^ 64 - 1) }
+        ensures goes_on { result ≡ false → (image_at self.old.stops.items self.new.calls ≡ None)
+            × (self.new ≡ record self.old { calls = self.new.calls }) }
+        ensures stops { result ≡ true → (image_at self.old.stops.items self.new.calls ≡ Some self.new.image)
+            × Rose self.old.downs self.new.downs
+            × (self.new ≡ record self.old {
+              calls = self.new.calls;
+              image = self.new.image;
+              up = false;
+              downs = self.new.downs;
+            }) }
         ensures counts { (self.old.downs ≤ self.new.downs) × (self.old.deads ≤ self.new.deads) }
         ensures next { self.new ≡ after_call self.old }
     {
@@ -58,10 +66,13 @@ impl Plan {
 
     /// Counts a restart, and says what it leaves, or nothing where the disk is dead.
     pub(crate) fn restart(&mut self) -> Option<Image>
-        ensures counted { self.new.restarts ≡ min (self.old.restarts + 1) (2 ^ 64 - 1) }
-        ensures alive { MatchOption self.old.dead_from (IsSome result) (λ from. IsSome result ↔ (self.new.restarts + 1 ≤ from)) }
+        ensures restarts { self.new.restarts ≡ min (self.old.restarts + 1) (2 ^ 64 - 1) }
+        ensures alive { MatchOption self.old.dead_from (IsSome result)
+            (λ from. IsSome result ↔ (self.new.restarts + 1 ≤ from)) }
         ensures image { IfSome result (λ image. image ≡ self.old.image) }
-        ensures told { MatchOption result (Rose self.old.deads self.new.deads × (self.new.up ≡ false)) (λ _. self.new.up ≡ true) }
+        ensures told { MatchOption result
+            (Rose self.old.deads self.new.deads × (self.new.up ≡ false))
+            (λ _. self.new.up ≡ true) }
         ensures counts { (self.old.downs ≤ self.new.downs) × (self.old.deads ≤ self.new.deads) }
         ensures left { result ≡ comes_back self.old }
         ensures next { self.new ≡ after_restart self.old }

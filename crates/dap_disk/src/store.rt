@@ -26,9 +26,12 @@ pub(crate) struct Store {
     ghost last_synced: { live ≡ true → synced.items ≡ (state_of first.items events.items).synced },
     ghost within: { settled ≤ length events.items },
     ghost pending: { changes_of (drop settled events.items) ≡ (state_of first.items events.items).pending },
-    ghost placed: { are_within (length (state_of first.items events.items).synced) (state_of first.items events.items).pending ≡ true },
-    ghost room_bytes: { live ≡ true → greatest (length synced.items) (changes_of (drop settled events.items)) ≤ vec_capacity bytes },
-    ghost room_synced: { live ≡ true → greatest (length synced.items) (changes_of (drop settled events.items)) ≤ vec_capacity synced },
+    ghost placed: { are_within (length (state_of first.items events.items).synced)
+        (state_of first.items events.items).pending ≡ true },
+    ghost room_bytes: { live ≡ true
+        → greatest (length synced.items) (changes_of (drop settled events.items)) ≤ vec_capacity bytes },
+    ghost room_synced: { live ≡ true
+        → greatest (length synced.items) (changes_of (drop settled events.items)) ≤ vec_capacity synced },
     ghost room_events: { settled < length events.items → vec_len events < vec_capacity events },
 }
 
@@ -58,9 +61,11 @@ impl Store {
 
     // Makes room for a file of this length, for a call, and for a sync or restart after it.
     fn prepare(&mut self, end: usize) -> Result<(), AllocError>
-        ensures same { (self.new.first.items ≡ self.old.first.items) × (self.new.events.items ≡ self.old.events.items) × (self.new.settled ≡ self.old.settled) }
+        ensures same { (self.new.first.items ≡ self.old.first.items) × (self.new.events.items ≡ self.old.events.items)
+            × (self.new.settled ≡ self.old.settled) }
         ensures live { OnOk result (self.new.live ≡ true) }
-        ensures room { OnOk result ((end ≤ vec_capacity self.new.bytes) × (end ≤ vec_capacity self.new.synced) × (vec_len self.new.events + 2 ≤ vec_capacity self.new.events)) }
+        ensures room { OnOk result ((end ≤ vec_capacity self.new.bytes) × (end ≤ vec_capacity self.new.synced)
+            × (vec_len self.new.events + 2 ≤ vec_capacity self.new.events)) }
     {
         if !self.live {
             let bytes = Vec::from_slice(self.alloc, &self.first)?;
@@ -85,7 +90,8 @@ impl Store {
     pub(crate) fn write(&mut self, at: usize, bytes: &[u8]) -> Result<(), AllocError>
         requires { at ≤ length (held_after self.old.first.items self.old.events.items) }
         ensures first { self.new.first.items ≡ self.old.first.items }
-        ensures ok { OnOk result ((v : Vec ℕ TheGlobal) × (v.items ≡ bytes.now) × (self.new.events.items ≡ self.old.events.items ++ Wrote at v ∷ [])) }
+        ensures ok { OnOk result ((v : Vec ℕ TheGlobal) × (v.items ≡ bytes.now)
+            × (self.new.events.items ≡ self.old.events.items ++ Wrote at v ∷ [])) }
         ensures err { OnErr result (self.new.events.items ≡ self.old.events.items) }
     {
         if bytes.len() > usize::MAX - at {
@@ -115,7 +121,9 @@ impl Store {
     /// A sync, or a restart that leaves what the rule says. It takes no memory.
     pub(crate) fn settle(&mut self, image: Image)
         ensures first { self.new.first.items ≡ self.old.first.items }
-        ensures events { ((self.new.events.items ≡ self.old.events.items) × ((state_of self.old.first.items self.old.events.items).pending ≡ [])) ⊎ (self.new.events.items ≡ self.old.events.items ++ Settled image ∷ []) }
+        ensures events { ((self.new.events.items ≡ self.old.events.items)
+            × ((state_of self.old.first.items self.old.events.items).pending ≡ []))
+            ⊎ (self.new.events.items ≡ self.old.events.items ++ Settled image ∷ []) }
     {
         if self.settled == self.events.len() {
             return;

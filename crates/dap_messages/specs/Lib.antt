@@ -9,6 +9,8 @@ pub mod Lawful
 pub mod Laws
 pub mod MessageLaws
 pub mod Messages
+pub mod ReportLaws
+pub mod Reports
 pub mod ShareLaws
 pub mod Shares
 pub mod Spelled

@@ -46,6 +46,22 @@ pub enum Status {
     Failed(Code),
 }
 
+impl Clone for Half {
+    ghost use Rattle.std.specs.Prelude.{◌≡◌};
+
+    ghost is_clone = { λ value copy. copy ≡ value };
+
+    fn clone(&self) -> Result<Half, AllocError> {
+        let public = self.public.clone()?;
+        let helper = self.helper.clone()?;
+        Ok(Half {
+            time: self.time,
+            public,
+            helper,
+        })
+    }
+}
+
 impl Spelled for Half {
     ghost use Rattle.dap_messages.specs.Forms.{half};
     ghost use Rattle.dap_messages.specs.FormLaws.{half_lawful};
@@ -75,6 +91,19 @@ impl Spelled for Half {
         is_u64(self.time, 0, LATEST_TIME)
             && are_bytes(&self.public, MOST_PUBLIC)
             && are_bytes(&self.helper, MOST_HELPER)
+    }
+}
+
+impl Clone for Step {
+    ghost use Rattle.std.specs.Prelude.{◌≡◌};
+
+    ghost is_clone = { λ value copy. copy ≡ value };
+
+    fn clone(&self) -> Result<Step, AllocError> {
+        match self {
+            Step::Continued(prep) => Ok(Step::Continued(prep.clone()?)),
+            Step::Failed(code) => Ok(Step::Failed(*code)),
+        }
     }
 }
 

@@ -32,6 +32,18 @@ impl<B> Tagged<B> {
     }
 }
 
+/// A copy is equal where a copy of its body is.
+impl<B: Clone> Clone for Tagged<B> {
+    ghost use Rattle.std.specs.Prelude.{◌≡◌};
+
+    ghost is_clone = { λ item copy. ((x y : B) → B.is_clone x y → y ≡ x) → copy ≡ item };
+
+    fn clone(&self) -> Result<Tagged<B>, AllocError> {
+        let body = self.body.clone()?;
+        Ok(Tagged { id: self.id, body })
+    }
+}
+
 /// The items of a message or record: 1 to `MOST_ITEMS` where they have a spelling, with strictly ascending identifiers.
 /// Contracts see the list of them.
 #[derive(Debug, Drop)]
@@ -46,6 +58,18 @@ impl<B> Model for Items<B> {
     ghost Value = { List (Tagged B) };
 
     ghost view = { λ a. a.items.items };
+}
+
+/// A copy is equal where copies of the bodies are.
+impl<B: Clone> Clone for Items<B> {
+    ghost use Rattle.std.specs.Prelude.{◌≡◌};
+
+    ghost is_clone = { λ items copy. ((x y : B) → B.is_clone x y → y ≡ x) → copy ≡ items };
+
+    fn clone(&self) -> Result<Items<B>, AllocError> {
+        let items = self.items.clone()?;
+        Ok(Items { items })
+    }
 }
 
 impl<B> Items<B> {

@@ -22,6 +22,20 @@ pub enum Reply {
     Mismatch(u32, [u8; 32]),
 }
 
+impl Clone for Reply {
+    ghost use Rattle.std.specs.Prelude.{◌≡◌};
+
+    ghost is_clone = { λ value copy. copy ≡ value };
+
+    fn clone(&self) -> Result<Reply, AllocError> {
+        match self {
+            Reply::Share(share) => Ok(Reply::Share(share.clone()?)),
+            Reply::Small(total) => Ok(Reply::Small(*total)),
+            Reply::Mismatch(total, checksum) => Ok(Reply::Mismatch(*total, *checksum)),
+        }
+    }
+}
+
 impl Spelled for Reply {
     ghost use Rattle.dap_messages.specs.Forms.{reply};
     ghost use Rattle.dap_messages.specs.FormLaws.{reply_lawful};

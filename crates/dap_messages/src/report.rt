@@ -1,6 +1,6 @@
 //! Reports.
 
-use crate::body::{MOST_HELPER, MOST_PUBLIC};
+use crate::body::{Half, MOST_HELPER, MOST_PUBLIC};
 use crate::fault::ReadFault;
 use crate::fields::{
     are_bytes, is_array, is_name, is_u64, put_bytes, put_name, read_array, read_bytes, read_name,
@@ -32,6 +32,73 @@ pub struct Report {
     pub leader: Bytes,
     /// The helper's sealed input share, at most `MOST_HELPER` bytes.
     pub helper: Bytes,
+}
+
+impl Clone for Report {
+    ghost use Rattle.std.specs.Prelude.{◌≡◌};
+
+    ghost is_clone = { λ value copy. copy ≡ value };
+
+    fn clone(&self) -> Result<Report, AllocError> {
+        let public = self.public.clone()?;
+        let leader = self.leader.clone()?;
+        let helper = self.helper.clone()?;
+        Ok(Report {
+            name: self.name,
+            id: self.id,
+            time: self.time,
+            public,
+            leader,
+            helper,
+        })
+    }
+}
+
+impl Report {
+    ghost use Rattle.std.specs.Prelude.{◌≡◌, ◌↔◌, IsTrue, IfOk};
+    ghost use Rattle.dap_messages.specs.Messages.{report};
+    ghost use Rattle.dap_messages.specs.Reports.{half_of, has_fields_of, has_key, is_same_report};
+
+    /// Whether it is of this task and has this identifier. It takes no memory.
+    pub fn has_key(&self, name: &Name, id: &Id) -> bool
+        ensures { result ≡ has_key name.now id.now self.now }
+    {
+        self.name == *name && self.id == *id
+    }
+
+    /// Whether two reports have the same bytes, which is whether they are the same. It takes no memory.
+    pub fn is_same(&self, other: &Report) -> bool
+        requires here { IsTrue (report.allowed self.now) }
+        requires there { IsTrue (report.allowed other.now) }
+        ensures bytes { result ≡ is_same_report self.now other.now }
+        ensures equal { IsTrue result ↔ (self.now ≡ other.now) }
+    {
+        self.has_fields_of(other)
+    }
+
+    fn has_fields_of(&self, other: &Report) -> bool
+        ensures { result ≡ has_fields_of self.now other.now }
+    {
+        self.name == other.name
+            && self.id == other.id
+            && self.time == other.time
+            && self.public == other.public
+            && self.leader == other.leader
+            && self.helper == other.helper
+    }
+
+    /// What the helper gets of it.
+    pub fn half(&self) -> Result<Half, AllocError>
+        ensures { IfOk result (λ half. half ≡ half_of self.now) }
+    {
+        let public = self.public.clone()?;
+        let helper = self.helper.clone()?;
+        Ok(Half {
+            time: self.time,
+            public,
+            helper,
+        })
+    }
 }
 
 impl Spelled for Report {

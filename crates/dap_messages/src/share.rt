@@ -15,7 +15,7 @@ use dap_bytes::{Cursor, Name, Span, put_u8, put_u32};
 use std::alloc::{AllocError, Global};
 
 /// The leader asks for the helper's share of a batch.
-#[derive(Debug, Drop)]
+#[derive(Clone, Copy, Debug)]
 pub struct ShareReq {
     /// The task's name.
     pub name: Name,
@@ -100,6 +100,21 @@ impl Spelled for ShareReq {
     #[tactic(auto, using(crate::specs::ShareLaws::request_allowed))]
     fn is_allowed(&self) -> bool {
         self.are_fields_allowed()
+    }
+}
+
+impl Clone for ShareResp {
+    ghost use Rattle.std.specs.Prelude.{◌≡◌};
+
+    ghost is_clone = { λ value copy. copy ≡ value };
+
+    fn clone(&self) -> Result<ShareResp, AllocError> {
+        let reply = self.reply.clone()?;
+        Ok(ShareResp {
+            name: self.name,
+            span: self.span,
+            reply,
+        })
     }
 }
 

@@ -530,3 +530,75 @@ fn identifiers_ascend_and_other_codes_are_refused(rt: HostRuntime) -> Result<(),
     }
     Ok(())
 }
+
+/// Whether two inputs spell the same report.
+fn are_same(alloc: Global, one: &[u8], other: &[u8]) -> Result<bool, Fail> {
+    match (read_report(alloc, one), read_report(alloc, other)) {
+        (Ok(one), Ok(other)) => Ok(one.is_same(&other)),
+        _ => Err("not a report".into()),
+    }
+}
+
+#[test]
+fn reports_are_the_same_by_their_bytes(rt: HostRuntime) -> Result<(), Fail> {
+    let alloc = rt.alloc();
+    assert!(rt; are_same(alloc, &REPORT, &REPORT)?);
+    for (byte, value) in [(1, 0x77), (17, 2), (25, 11), (37, 0x63), (42, 0x64)] {
+        let other = spliced(alloc, &REPORT, byte, &[value], byte + 1)?;
+        assert!(rt; !are_same(alloc, &REPORT, &other)?, "{byte}");
+    }
+    let public = spliced(alloc, &REPORT, 28, &[0, 0, 0, 1, 7], 32)?;
+    assert!(rt; !are_same(alloc, &REPORT, &public)?);
+    Ok(())
+}
+
+#[test]
+fn a_report_has_its_key_and_its_half(rt: HostRuntime) -> Result<(), Fail> {
+    let alloc = rt.alloc();
+    let Ok(report) = read_report(alloc, &REPORT) else {
+        return Err("not a report".into());
+    };
+    let (Some(v), Some(w)) = (Name::new(b"v"), Name::new(b"w")) else {
+        return Err("no names".into());
+    };
+    let copy = report.clone()?;
+    let mut id = [0; 16];
+    assert!(rt; !copy.has_key(&v, &id));
+    id[15] = 1;
+    assert!(rt; copy.has_key(&v, &id) && !copy.has_key(&w, &id));
+    let half = copy.half()?.clone()?;
+    assert_eq!(rt; (half.time, half.public.len()), (10, 0));
+    assert_eq!(rt; half.helper.as_slice(), [0x63].as_slice());
+    Ok(())
+}
+
+#[test]
+fn copies_say_the_same(rt: HostRuntime) -> Result<(), Fail> {
+    let alloc = rt.alloc();
+    for bytes in [
+        SHARE.as_slice(),
+        SHARE_RESP.as_slice(),
+        WIDE_RESP.as_slice(),
+    ] {
+        let response: ShareResp = match read_all(alloc, bytes) {
+            Ok(response) => response,
+            Err(_) => return Err("no answer".into()),
+        };
+        let copy = response.clone()?;
+        assert_eq!(rt; write_all(alloc, &copy)?.as_slice(), bytes);
+    }
+    let Ok(Message::InitResp(_, steps)) = read_message(alloc, &INIT_RESP) else {
+        return Err("not a message".into());
+    };
+    let copy = steps.clone()?;
+    let [one, two] = copy.as_slice() else {
+        return Err("not two steps".into());
+    };
+    assert!(rt;
+        matches!(&one.body, Step::Continued(prep) if prep.as_slice() == [7, 8, 9].as_slice())
+    );
+    assert!(rt;
+        matches!(two.body, Step::Failed(Code::VdafPrepError)) && (one.id[0], two.id[0]) == (1, 2)
+    );
+    Ok(())
+}

@@ -51,7 +51,7 @@ module _ (f : Kind → Functions) (tasks : List PlainTask) where
     reports : length (cond (falls_in task start l) (option_to_list (measured (f task.kind) l)) []) ≡ one_if (falls_in task start l)
 
   head_is : ((k : Kind) → IsKind k → FunctionLaws (f k)) → (task : PlainTask) → find (has_name task.name) tasks ≡ Some task → (start : ℕ)
-      (done : List Line) (name id : List ℕ) (time value : ℕ) (seed : List ℕ) (t : IsTaken f tasks done name id time value seed)
+      (done : List Line) (name id : List ℕ) (time : ℕ) (value seed : List ℕ) (t : IsTaken f tasks done name id time value seed)
       → Head task start (report_of t.task id time t.shares) (line.Measure name id time value seed)
   head_is laws task known start done name id time value seed t = go (falls_in task start (line.Measure name id time value seed)) refl
     where

@@ -21,10 +21,10 @@ use Rattle.dap_bytes.specs.declared.span.Span.{Span}
 use Rattle.dap_bytes.specs.Spans.{passes_start}
 
 module _ (f : Kind → Functions) (t : PlainTask) (laws : FunctionLaws (f t.kind)) (key : length t.verify ≡ 16) where
-  abbrev vectors : List ℕ → List (List ℕ)
+  abbrev vectors : List (List ℕ) → List (List ℕ)
   vectors measurements = filter_map (f t.kind).encoding measurements
 
-  vectors-carried : (ms : List ℕ) (rs : List Report) → CarryEach f t ms rs → vectors_of f t rs ≡ vectors ms
+  vectors-carried : (ms : List (List ℕ)) (rs : List Report) → CarryEach f t ms rs → vectors_of f t rs ≡ vectors ms
   vectors-carried [] [] h = refl
   vectors-carried [] (r ∷ rs) h = absurd h
   vectors-carried (m ∷ ms) [] h = absurd h
@@ -34,14 +34,14 @@ module _ (f : Kind → Functions) (t : PlainTask) (laws : FunctionLaws (f t.kind
       honest-counted laws t r.id r.time m one.seed r key one.id_bytes one.seed_bytes one.made one.fair in
       ap (λ o. cons_option o (vectors_of f t rs)) content ∙ ap (cons_option ((f t.kind).encoding m)) (vectors-carried ms rs h.1)
 
-  length-carried : (ms : List ℕ) (rs : List Report) → CarryEach f t ms rs → length rs ≡ length ms
+  length-carried : (ms : List (List ℕ)) (rs : List Report) → CarryEach f t ms rs → length rs ≡ length ms
   length-carried [] [] h = refl
   length-carried [] (r ∷ rs) h = absurd h
   length-carried (m ∷ ms) [] h = absurd h
   length-carried (m ∷ ms) (r ∷ rs) h = ap suc (length-carried ms rs h.1)
 
   -- each measurement has a vector
-  length-vectors : (ms : List ℕ) (rs : List Report) → CarryEach f t ms rs → length (vectors ms) ≡ length ms
+  length-vectors : (ms : List (List ℕ)) (rs : List Report) → CarryEach f t ms rs → length (vectors ms) ≡ length ms
   length-vectors [] [] h = refl
   length-vectors [] (r ∷ rs) h = absurd h
   length-vectors (m ∷ ms) [] h = absurd h
@@ -51,7 +51,7 @@ module _ (f : Kind → Functions) (t : PlainTask) (laws : FunctionLaws (f t.kind
       let vector = laws.measured r.id m one.seed made.parts one.id_bytes one.seed_bytes made.sharded in
       ap (λ o. length (cons_option o (vectors ms))) vector.1 ∙ ap suc (length-vectors ms rs h.1)
 
-  module _ (s : State) (k : ℕ) (name : List ℕ) (span : Span) (ms : List ℕ) (h : CarryEach f t ms (batch_reports s t span)) where
+  module _ (s : State) (k : ℕ) (name : List ℕ) (span : Span) (ms : List (List ℕ)) (h : CarryEach f t ms (batch_reports s t span)) where
     abbrev reports : List Report
     reports = batch_reports s t span
 

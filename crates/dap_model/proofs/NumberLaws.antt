@@ -52,7 +52,7 @@ module _ (f : Kind → Functions) (s : State) (k : ℕ) where
   offer-of t why None = refusal-of why
   offer-of t why (Some r) = judgement-of r (judgement s t r)
 
-  measure-of : (id : List ℕ) (time value : ℕ) (seed : List ℕ) (o : Option PlainTask) → AreOfLine k (option_map_or (measure_of f s k id time value seed) o (refused s k cause.Task)).1
+  measure-of : (id : List ℕ) (time : ℕ) (value seed : List ℕ) (o : Option PlainTask) → AreOfLine k (option_map_or (measure_of f s k id time value seed) o (refused s k cause.Task)).1
   measure-of id time value seed None = refusal-of cause.Task
   measure-of id time value seed (Some t) = offer-of t cause.Value (honest_report (f t.kind) t id time value seed)
 

@@ -24,7 +24,7 @@ use Rattle.dap_model.proofs.ChangeLaws.{collect_accepts}
 module _ (f : Kind → Functions) (s : State) (k : ℕ) where
   -- ---- measurements
 
-  module _ (name id : List ℕ) (time value : ℕ) (seed : List ℕ) where
+  module _ (name id : List ℕ) (time : ℕ) (value seed : List ℕ) where
     abbrev made : PlainTask → Option Report
     made t = honest_report (f t.kind) t id time value seed
 

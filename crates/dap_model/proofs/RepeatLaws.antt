@@ -120,7 +120,7 @@ module _ (f : Kind → Functions) (task : PlainTask) (span : Span) where
     offer_stays : (s : State) (k : ℕ) (t : PlainTask) (r : Report) → find (has_name r.name) s.tasks ≡ Some t → Stays s → Stays (offered s k t r).0
     offer_stays s k t r found h = judgement_stays s k t r found h (judgement s t r) refl
 
-    measure_stays : (s : State) (k : ℕ) (name id : List ℕ) (time value : ℕ) (seed : List ℕ) → Stays s → Stays (step f s k (line.Measure name id time value seed)).0
+    measure_stays : (s : State) (k : ℕ) (name id : List ℕ) (time : ℕ) (value seed : List ℕ) → Stays s → Stays (step f s k (line.Measure name id time value seed)).0
     measure_stays s k name id time value seed h = go (find (has_name name) s.tasks) refl
       where
         shared : (t : PlainTask) → find (has_name name) s.tasks ≡ Some t → (o : Option Parts)

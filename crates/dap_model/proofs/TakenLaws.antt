@@ -78,7 +78,7 @@ module _ (f : Kind → Functions) (tasks : List PlainTask) where
     pub accepted : s.accepted ≡ reports_of done
     pub collected : (has_it : Batch → Bool) → list_any (collects has_it) done ≡ false → list_any has_it s.collected ≡ false
 
-  made_none : (name id n i : List ℕ) (time value : ℕ) (seed : List ℕ) → (bytes_eq n name && bytes_eq i id) ≡ false
+  made_none : (name id n i : List ℕ) (time : ℕ) (value seed : List ℕ) → (bytes_eq n name && bytes_eq i id) ≡ false
       → list_any (has_key name id) (made_by (line.Measure n i time value seed)) ≡ false
   made_none name id n i time value seed e = go (find (has_name n) tasks) (λ t is. found_name n tasks t is)
     where
@@ -114,7 +114,7 @@ module _ (f : Kind → Functions) (tasks : List PlainTask) where
     collected = λ has_it e. h.collected has_it (or_parts _ _ (sym (list_any-append (collects has_it) done (l ∷ [])) ∙ e)).0;
   }
 
-  taken_step : (done : List Line) (s : State) (k : ℕ) (name id : List ℕ) (time value : ℕ) (seed : List ℕ) → Stands done s → (t : IsTaken f tasks done name id time value seed)
+  taken_step : (done : List Line) (s : State) (k : ℕ) (name id : List ℕ) (time : ℕ) (value seed : List ℕ) → Stands done s → (t : IsTaken f tasks done name id time value seed)
       → step f s k (line.Measure name id time value seed) ≡ (record s { accepted = s.accepted ++ report_of t.task id time t.shares ∷ [] }, [])
   taken_step done s k name id time value seed h t =
       let a : Report = report_of t.task id time t.shares in
@@ -132,13 +132,13 @@ module _ (f : Kind → Functions) (tasks : List PlainTask) where
       ∙ ap (after_judgement s k a) (judged_added (known_in s.accepted t.task.name id) s.moment t.task.expires closed (report.spell a) time unknown
       (not_early (times_of done) s.moment time h.moment t.timely) (not_expired (times_of done) s.moment t.task.expires h.moment t.unexpired) open_)
 
-  pub made_is : (done : List Line) (name id : List ℕ) (time value : ℕ) (seed : List ℕ) (t : IsTaken f tasks done name id time value seed)
+  pub made_is : (done : List Line) (name id : List ℕ) (time : ℕ) (value seed : List ℕ) (t : IsTaken f tasks done name id time value seed)
       → made_by (line.Measure name id time value seed) ≡ report_of t.task id time t.shares ∷ []
   made_is done name id time value seed t =
       ap (λ (o : Option PlainTask). option_map_or (λ t. option_map_or (λ p. report_of t id time p ∷ []) ((f t.kind).shard id value seed) []) o []) t.known
       ∙ ap (λ (o : Option Parts). option_map_or (λ p. report_of t.task id time p ∷ []) o []) t.shared
 
-  measured_stands : (done : List Line) (s : State) (k : ℕ) (name id : List ℕ) (time value : ℕ) (seed : List ℕ) → Stands done s → IsTaken f tasks done name id time value seed
+  measured_stands : (done : List Line) (s : State) (k : ℕ) (name id : List ℕ) (time : ℕ) (value seed : List ℕ) → Stands done s → IsTaken f tasks done name id time value seed
       → Stands (done ++ line.Measure name id time value seed ∷ []) (step f s k (line.Measure name id time value seed)).0
   measured_stands done s k name id time value seed h t =
       let l : Line = line.Measure name id time value seed in

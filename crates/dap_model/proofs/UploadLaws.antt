@@ -39,7 +39,7 @@ upload_offers s k bytes r t read known =
     ∙ ap (λ (o : Option PlainTask). option_map_or (upload_to s k bytes) o (refused s k cause.Task)) known
     ∙ ap (λ (o : Result Report ℕ). option_map_or (offered s k t) (result_ok o) (refused s k cause.Form)) read
 
-pub upload-honest : (f : Kind → Functions) → ((k : Kind) → IsKind k → FunctionLaws (f k)) → (s : State) (k : ℕ) (name id : List ℕ) (time value : ℕ) (seed : List ℕ) (r : Report)
+pub upload-honest : (f : Kind → Functions) → ((k : Kind) → IsKind k → FunctionLaws (f k)) → (s : State) (k : ℕ) (name id : List ℕ) (time : ℕ) (value seed : List ℕ) (r : Report)
     → IsHonest f s.tasks name id time value seed r → step f s k (line.Upload (report.spell r)) ≡ step f s k (line.Measure name id time value seed)
 upload-honest f laws s k name id time value seed r h =
     let t : PlainTask = h.task in
@@ -56,7 +56,7 @@ upload-honest f laws s k name id time value seed r h =
 
 -- ---- measurements
 
-pub measure-first_cause : (f : Kind → Functions) (s : State) (k : ℕ) (name id : List ℕ) (time value : ℕ) (seed : List ℕ)
+pub measure-first_cause : (f : Kind → Functions) (s : State) (k : ℕ) (name id : List ℕ) (time : ℕ) (value seed : List ℕ)
     → MeasuresByTheFirstCause f s k name id time value seed (step f s k (line.Measure name id time value seed))
 measure-first_cause f s k name id time value seed = record {
   task = λ none. ap found none;

@@ -87,7 +87,7 @@ measured_in task span lines = sum_by (λ start. count_by (falls_in task start) l
 -- A measurement of a known task after these lines: its shares are fair, it isn't early, its task hasn't expired, none of
 -- the lines measures under its identifier, and none collects a batch that holds its bucket.
 pub record IsTaken (f : Kind → Functions) (tasks : List PlainTask) (done : List Line)
-    (name id : List ℕ) (time value : ℕ) (seed : List ℕ) : Type 0 where
+    (name id : List ℕ) (time : ℕ) (value seed : List ℕ) : Type 0 where
   pub task : PlainTask
   pub known : task_named tasks name ≡ Some task
   pub kind : IsKind task.kind

@@ -11,7 +11,7 @@ use Rattle.dap_model.specs.declared.printed.Printed.{Printed}
 use Rattle.dap_model.specs.declared.printed.Printed.TheVariants.{Collected}
 
 -- The report is the honest one of a measurement of the task, and fair.
-pub record Carries (f : Kind → Functions) (t : PlainTask) (measurement : ℕ) (r : Report) : Type 0 where
+pub record Carries (f : Kind → Functions) (t : PlainTask) (measurement : List ℕ) (r : Report) : Type 0 where
   pub id_bytes : length r.id ≡ 16
   pub seed : List ℕ
   pub seed_bytes : length seed ≡ 16
@@ -19,7 +19,7 @@ pub record Carries (f : Kind → Functions) (t : PlainTask) (measurement : ℕ) 
   pub fair : (f t.kind).is_fair t.verify r.id ≡ true
 
 -- The reports carry these measurements, one each, in their order.
-abbrev pub CarryEach : (Kind → Functions) → PlainTask → List ℕ → List Report → Type 0
+abbrev pub CarryEach : (Kind → Functions) → PlainTask → List (List ℕ) → List Report → Type 0
 CarryEach f t [] [] = Unit {0}
 CarryEach f t [] (r ∷ reports) = ⊥
 CarryEach f t (measurement ∷ measurements) [] = ⊥
@@ -28,7 +28,7 @@ CarryEach f t (measurement ∷ measurements) (r ∷ reports) =
 
 -- The batch has a report for each of these measurements and none that is rejected, and its answer is that of the sum
 -- of their vectors.
-abbrev pub honest_line : (Kind → Functions) → PlainTask → List ℕ → Span → List ℕ → Printed
+abbrev pub honest_line : (Kind → Functions) → PlainTask → List ℕ → Span → List (List ℕ) → Printed
 honest_line f t name span measurements =
     let total = total_numbers (f t.kind).space (filter_map (f t.kind).encoding measurements) in
     Collected name span (record { reports = length measurements; rejected = 0; answer = (f t.kind).answer total })

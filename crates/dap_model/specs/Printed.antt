@@ -3,7 +3,7 @@ use Rattle.std.specs.Prelude.{ℕ, List, [], ◌∷◌, ◌++◌, codes}
 use Rattle.std.specs.Fmt.{decimal}
 use Rattle.std.specs.List.{flat_map}
 use Rattle.vdaf_api.specs.declared.answer.Answer.{Answer}
-use Rattle.vdaf_api.specs.declared.answer.Answer.TheVariants.{Count, Sum, Histogram}
+use Rattle.vdaf_api.specs.declared.answer.Answer.TheVariants.{Count, Sum, Histogram, Vector}
 use Rattle.dap_tasks.specs.declared.cause.Cause.{Cause}
 use Rattle.dap_tasks.specs.declared.cause.Cause.TheVariants as cause
 use Rattle.dap_script.specs.Spelling.{span_text}
@@ -35,6 +35,7 @@ abbrev pub answer_text : Answer → List ℕ
 answer_text (Count n) = codes " count " ++ decimal n
 answer_text (Sum n) = codes " sum " ++ decimal n
 answer_text (Histogram numbers) = codes " histogram " ++ numbers_text numbers
+answer_text (Vector numbers) = codes " vector " ++ numbers_text numbers
 
 -- a line, without its end
 abbrev pub line_text : Printed → List ℕ

@@ -52,7 +52,7 @@ abbrev pub offered : State → ℕ → PlainTask → Report → Outcome
 offered s k task new = after_judgement s k new (judgement s task new)
 
 -- the honest report of a measurement of the task is offered, if the measurement has shares
-abbrev pub measure_of : (Kind → Functions) → State → ℕ → List ℕ → ℕ → ℕ → List ℕ → PlainTask → Outcome
+abbrev pub measure_of : (Kind → Functions) → State → ℕ → List ℕ → ℕ → List ℕ → List ℕ → PlainTask → Outcome
 measure_of f s k id time value seed task =
     option_map_or (offered s k task) (honest_report (f task.kind) task id time value seed) (refused s k cause.Value)
 

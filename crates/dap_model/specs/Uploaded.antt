@@ -14,7 +14,7 @@ pub record UploadsIt (f : Kind → Functions) (tasks : List PlainTask) (first se
   pub name : List ℕ
   pub id : List ℕ
   pub time : ℕ
-  pub value : ℕ
+  pub value : List ℕ
   pub seed : List ℕ
   pub made : Report
   pub honest : IsHonest f tasks name id time value seed made

@@ -17,7 +17,7 @@ use Rattle.dap_model.specs.declared.printed.Printed.TheVariants.{Refused}
 
 -- The honest report of a measurement of a known task, each within its range.
 pub record IsHonest (f : Kind → Functions) (tasks : List PlainTask)
-    (name id : List ℕ) (time value : ℕ) (seed : List ℕ) (r : Report) : Type 0 where
+    (name id : List ℕ) (time : ℕ) (value seed : List ℕ) (r : Report) : Type 0 where
   pub task : PlainTask
   pub known : task_named tasks name ≡ Some task
   pub kind : IsKind task.kind
@@ -29,7 +29,7 @@ pub record IsHonest (f : Kind → Functions) (tasks : List PlainTask)
 -- What line k comes to, which measures: it is refused `task` where the name is no task's, else `value` where sharding
 -- has no value; else the honest report is offered to the task.
 pub record MeasuresByTheFirstCause (f : Kind → Functions) (s : State) (k : ℕ)
-    (name id : List ℕ) (time m : ℕ) (seed : List ℕ) (after : Outcome) : Type 0 where
+    (name id : List ℕ) (time : ℕ) (m seed : List ℕ) (after : Outcome) : Type 0 where
   pub task : task_named s.tasks name ≡ None → after ≡ refused s k cause.Task
   pub value : (t : PlainTask) → task_named s.tasks name ≡ Some t → (f t.kind).shard id m seed ≡ None
       → after ≡ refused s k cause.Value

@@ -71,7 +71,7 @@ pub fn reports_are_accepted_once()
 
 /// A law: an upload of the bytes of the honest report of a measurement changes and prints what the measurement does.
 pub fn honest_uploads_are_measurements<V: Vdaf>(_: &V)
-    ensures { (state : State) (number : ℕ) (name id : List ℕ) (time value : ℕ) (seed : List ℕ) (r : Report)
+    ensures { (state : State) (number : ℕ) (name id : List ℕ) (time : ℕ) (value seed : List ℕ) (r : Report)
         → IsHonest V.of_kind state.tasks name id time value seed r
         → step V.of_kind state number (Upload (report.spell r))
         ≡ step V.of_kind state number (Measure name id time value seed) }
@@ -88,7 +88,7 @@ pub fn uploaded_scripts_print_the_same<V: Vdaf>(_: &V)
 /// A law: a measurement is refused `task` where its name is no known task's, else `value` where sharding has no value;
 /// else its honest report is offered to the task.
 pub fn measurements_go_by_the_first_cause()
-    ensures { (f : Kind → Functions) (state : State) (number : ℕ) (name id : List ℕ) (time value : ℕ) (seed : List ℕ)
+    ensures { (f : Kind → Functions) (state : State) (number : ℕ) (name id : List ℕ) (time : ℕ) (value seed : List ℕ)
         → let after = step f state number (Measure name id time value seed) in
         MeasuresByTheFirstCause f state number name id time value seed after }
 {}
@@ -210,7 +210,8 @@ pub fn states_only_grow()
 /// many reports as these carry measurements, none rejected, and the answer of the sum of the measurements' vectors.
 /// Where the reports came from, and what other batches hold, plays no part.
 pub fn honest_batches_are_counted<V: Vdaf>(_: &V)
-    ensures { (state : State) (number : ℕ) (name : List ℕ) (span : PlainSpan) (task : PlainTask) (measurements : List ℕ)
+    ensures { (state : State) (number : ℕ) (name : List ℕ) (span : PlainSpan) (task : PlainTask)
+        (measurements : List (List ℕ))
         → IsKind task.kind → length task.verify ≡ 16
         → CarryEach V.of_kind task measurements (batch_reports state task span)
         → task_named state.tasks name ≡ Some task → passes_start span task.precision ≡ true

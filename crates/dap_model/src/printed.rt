@@ -90,6 +90,10 @@ fn put_answer(alloc: Global, out: &mut Vec<u8>, answer: &Answer) -> Result<(), A
             put_text(out, " histogram ")?;
             put_numbers(alloc, out, numbers.as_slice())
         }
+        Answer::Vector(numbers) => {
+            put_text(out, " vector ")?;
+            put_numbers(alloc, out, numbers.as_slice())
+        }
     }
 }
 

@@ -45,6 +45,7 @@ fn each_answer_is_spelled(rt: HostRuntime) -> Result<(), Fail> {
         Answer::Count(2),
         Answer::Sum(55340232221128654845),
         Answer::Histogram(Numbers::new([1, 0, 20].to_vec(alloc)?)),
+        Answer::Vector(Numbers::new([256, 2, 7].to_vec(alloc)?)),
     ];
     for answer in answers {
         let what = Collected {
@@ -65,6 +66,7 @@ fn each_answer_is_spelled(rt: HostRuntime) -> Result<(), Fail> {
             "collected v 3600 reports 3 rejected 1 count 2
 collected v 3600 reports 3 rejected 1 sum 55340232221128654845
 collected v 3600 reports 3 rejected 1 histogram 1,0,20
+collected v 3600 reports 3 rejected 1 vector 256,2,7
 "
         )
     );
@@ -225,7 +227,7 @@ fn segments()
     ensures collected { (name : List ℕ) (span : PlainSpan)
         → whole_segments (Collect name span ∷ Blank ∷ []) ≡ Collect name span ∷ [] }
     ensures open { (name id bytes : List ℕ) (kind : Kind)
-        → whole_segments (Task name kind 1 1 None ∷ Now 0 ∷ Measure name id 0 0 bytes ∷ Upload bytes ∷ []) ≡ [] }
+        → whole_segments (Task name kind 1 1 None ∷ Now 0 ∷ Measure name id 0 (0 ∷ []) bytes ∷ Upload bytes ∷ []) ≡ [] }
 {}
 
 #[test]

@@ -32,7 +32,8 @@ pub trait Files {
     /// The first `MAX_READ` bytes of the file of this name, or all where it is shorter.
     /// It fails only where the faults rose by one, as for a file that isn't there, and else they stay. No file changes.
     fn read_file(&mut self, alloc: Global, name: &str) -> Result<Vec<u8>, FileFault>
-        ensures bytes { IfOk result (λ read. IfSome (contents self.old name.now) (λ bytes. read.items ≡ take MAX_READ bytes)) }
+        ensures bytes { IfOk result
+            (λ read. IfSome (contents self.old name.now) (λ bytes. read.items ≡ take MAX_READ bytes)) }
         ensures size { IfOk result (λ read. length read.items ≤ MAX_READ) }
         ensures kept { (file : List ℕ) → contents self.new file ≡ contents self.old file }
         ensures faults { Counts (IsErrOf result FileFault.Failed) (faults self.old) (faults self.new) };
@@ -68,7 +69,8 @@ impl MemFiles {
 
 /// What the first file of this name holds.
 fn find<'a>(files: &'a [(String, Vec<u8>)], name: &str) -> Option<&'a [u8]>
-    ensures { MatchOption result (file_in files.now name.now ≡ None) (λ bytes. file_in files.now name.now ≡ Some bytes.now) }
+    ensures { MatchOption result (file_in files.now name.now ≡ None)
+        (λ bytes. file_in files.now name.now ≡ Some bytes.now) }
 {
     for file in files {
         if file.0.as_str() == name {
@@ -94,16 +96,18 @@ impl Files for MemFiles {
     ghost faults = { λ f. faults_of f };
 
     fn read_file(&mut self, alloc: Global, name: &str) -> Result<Vec<u8>, FileFault>
-        ensures bytes { IfOk result (λ read. IfSome (file_of self.old name.now) (λ bytes. read.items ≡ take MAX_READ bytes)) }
+        ensures bytes { IfOk result
+            (λ read. IfSome (file_of self.old name.now) (λ bytes. read.items ≡ take MAX_READ bytes)) }
         ensures size { IfOk result (λ read. length read.items ≤ MAX_READ) }
         ensures kept { (file : List ℕ) → file_of self.new file ≡ file_of self.old file }
         ensures faults { Counts (IsErrOf result FileFault.Failed) (faults_of self.old) (faults_of self.new) }
 
         // It fails exactly at the listed calls and where there is no such file. Without memory nothing changes.
-        ensures fails { IsErrOf result FileFault.Failed → IsTrue (reading_fails self.old) ⊎ (file_of self.old name.now ≡ None) }
+        ensures fails { IsErrOf result FileFault.Failed → IsTrue (reading_fails self.old)
+            ⊎ (file_of self.old name.now ≡ None) }
         ensures passes { IsOk result → (reading_fails self.old ≡ false) × (file_of self.old name.now ≢ None) }
         ensures memory { IsErrOf result FileFault.NoMemory → self.new ≡ self.old }
-        ensures counted { IsErrOf result FileFault.NoMemory ⊎ (files_read self.new ≡ calls_after (files_read self.old)) }
+        ensures calls { IsErrOf result FileFault.NoMemory ⊎ (files_read self.new ≡ calls_after (files_read self.old)) }
         ensures missed { IsErrOf result FileFault.NoMemory ⊎ (files_missed self.new ≡ missed_after self.old name.now) }
         ensures listed { self.new.plan.fails ≡ self.old.plan.fails }
     {

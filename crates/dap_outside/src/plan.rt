@@ -33,7 +33,7 @@ impl Plan {
 
     /// Counts a call.
     pub fn count(&mut self)
-        ensures counted { self.new ≡ record self.old { calls = calls_after self.old.calls } }
+        ensures calls { self.new ≡ record self.old { calls = calls_after self.old.calls } }
         ensures later { failed_calls self.old ≤ failed_calls self.new }
         ensures risen { IsTrue (fails_next self.old) → Rose (failed_calls self.old) (failed_calls self.new) }
         ensures calm { fails_next self.old ≡ false → failed_calls self.new ≡ failed_calls self.old }

@@ -76,14 +76,16 @@ impl Sink for MemSink {
         ensures bound { WritesAtMost result bytes.now }
         ensures some { 0 < length bytes.now → IfOk result (λ n. 0 < n) }
         ensures bytes { WriteAppends (Some (bytes_held self.old)) (Some (bytes_held self.new)) result bytes.now }
-        ensures faults { Counts (IsErrOf result SinkFault.Failed) (failed_calls self.old.plan) (failed_calls self.new.plan) }
+        ensures faults { Counts (IsErrOf result SinkFault.Failed) (failed_calls self.old.plan)
+            (failed_calls self.new.plan) }
 
         // It fails at the listed calls alone, and else takes all. Without memory nothing changes.
         ensures fails { IsErrOf result SinkFault.Failed → IsTrue (write_fails self.old) }
         ensures all { IfOk result (λ n. n ≡ length bytes.now) }
         ensures passes { IsOk result → write_fails self.old ≡ false }
         ensures memory { IsErrOf result SinkFault.NoMemory → self.new.plan ≡ self.old.plan }
-        ensures counted { IsErrOf result SinkFault.NoMemory ⊎ (writes_made self.new ≡ calls_after (writes_made self.old)) }
+        ensures calls { IsErrOf result SinkFault.NoMemory
+            ⊎ (writes_made self.new ≡ calls_after (writes_made self.old)) }
         ensures listed { self.new.plan.fails ≡ self.old.plan.fails }
     {
         self.bytes

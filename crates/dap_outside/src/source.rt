@@ -81,7 +81,7 @@ impl Source for MemSource {
         ensures untouched { OnErr result (buf.new ≡ buf.old) }
         ensures fails { IsErr result ↔ IsTrue (read_fails self.old) }
         ensures full { IfOk result (λ n. n ≡ min (length (bytes_left self.old)) (length buf.old)) }
-        ensures counted { reads_made self.new ≡ calls_after (reads_made self.old) }
+        ensures calls { reads_made self.new ≡ calls_after (reads_made self.old) }
         ensures listed { self.new.plan.fails ≡ self.old.plan.fails }
     {
         let fails = self.plan.fails_next();

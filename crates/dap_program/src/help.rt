@@ -20,11 +20,15 @@ on the script that stands on standard input, and prints what its lines print.
 
 Lines of a script, ASCII, their parts divided by one space, each ended by a line
 feed; MIN is 1 to 1,000,000, PRECISION 1 to 1,000,000,000, T, TIME and START at most
-999,999,999,999,999,999, VALUE below 2^64, and BUCKETS 1 to 64:
+999,999,999,999,999,999, VALUE a number below 2^64, or up to 1,024 of them with commas
+between for a vector, and BUCKETS 1 to 64:
   task NAME count MIN PRECISION             a task that counts measurements of 1
   task NAME sum BITS MIN PRECISION          one that adds numbers of 1 to 64 bits
   task NAME histogram B0,B1 MIN PRECISION   one that counts numbers by the bounds that
                                             they are not above, 1 to 1,023
+  task NAME vector LEN BITS MIN PRECISION   one that adds lists of LEN numbers, 1 to
+                                            1,024, of 1 to 32 bits, place by place;
+                                            LEN times BITS is at most 2,047
   task .. PRECISION expires T               a task that takes no more reports once the
                                             moment is T
   now T                                     the moment is T from here on, if it was
@@ -40,8 +44,8 @@ and shares no bucket with another batch. An empty line, or one that begins with 
 does nothing. At most 16 tasks are known in a run.
 
 A task file is TOML: a table [[task]] for each task, with name, kind (count, sum
-with bits, histogram with bounds), min, precision, expires if it does, and the keys
-verify (32 hex digits), leader and helper (64 each).
+with bits, histogram with bounds, vector with len and bits), min, precision, expires
+if it does, and the keys verify (32 hex digits), leader and helper (64 each).
 
 The exit status is 0 where the script was run to its end. Else a line on standard
 error says what stopped it.

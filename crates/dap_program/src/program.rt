@@ -42,7 +42,8 @@ fn perform<S: Source, F: Files, K: Sink>(
     ensures unread { (task : ℕ) (field : List ℕ) → IsErrOf result (Status.TasksRefused task field)
         → script.new ≡ script.old }
     ensures silent { IfErr result (λ status. IsSilent status → K.held out.new ≡ K.held out.old) }
-    ensures reads { CountsEither (IsErrOf result Status.ReadFault) (S.faults script.old) (S.faults script.new) (F.faults files.old) (F.faults files.new) }
+    ensures reads { CountsEither (IsErrOf result Status.ReadFault) (S.faults script.old) (S.faults script.new)
+        (F.faults files.old) (F.faults files.new) }
     ensures writes { Counts (IsErrOf result Status.WriteFault) (K.faults out.old) (K.faults out.new) }
     ensures end { IsRun (plain command.entry) → OnOk result (IsAtEnd (S.left script.new)) }
     ensures script { (IsRun (plain command.entry) → ⊥) → script.new ≡ script.old }
@@ -99,13 +100,15 @@ pub fn dap_alone<S: Source, F: Files, K: Sink>(
         (λ work. IsPassed work line limit) }
 
     // Where nothing fails, the answer is the work's, with its whole text, or want of memory.
-    ensures complete { ¬ Rose (S.faults script.old) (S.faults script.new) → ¬ Rose (F.faults files.old) (F.faults files.new)
+    ensures complete { ¬ Rose (S.faults script.old) (S.faults script.new)
+        → ¬ Rose (F.faults files.old) (F.faults files.new)
         → ¬ Rose (K.faults out.old) (K.faults out.new)
         → IfTold (word_texts words.now) (S.left script.old) (F.contents files.old)
         (λ work. (result ≡ Status.NoMemory) ⊎ (result ≡ status_of work)) }
 
     // A fault is answered where it happened in this call, and only there, and the counts of faults never fall.
-    ensures reads { CountsEither (result ≡ Status.ReadFault) (S.faults script.old) (S.faults script.new) (F.faults files.old) (F.faults files.new) }
+    ensures reads { CountsEither (result ≡ Status.ReadFault) (S.faults script.old) (S.faults script.new)
+        (F.faults files.old) (F.faults files.new) }
     ensures writes { Counts (result ≡ Status.WriteFault) (K.faults out.old) (K.faults out.new) }
 
     // What is printed is what the work prints: the whole of it, or a front where a fault or want of memory came between.

@@ -120,7 +120,8 @@ pub fn run<S: Source, F: Files, K: Sink>(
         → script.new ≡ script.old }
     ensures end { OnOk result (IsAtEnd (S.left script.new)) }
     ensures silent { IfErr result (λ status. IsSilent status → K.held out.new ≡ K.held out.old) }
-    ensures reads { CountsEither (IsErrOf result Status.ReadFault) (S.faults script.old) (S.faults script.new) (F.faults files.old) (F.faults files.new) }
+    ensures reads { CountsEither (IsErrOf result Status.ReadFault) (S.faults script.old) (S.faults script.new)
+        (F.faults files.old) (F.faults files.new) }
     ensures writes { Counts (IsErrOf result Status.WriteFault) (K.faults out.old) (K.faults out.new) }
     ensures kept { (file : List ℕ) → F.contents files.new file ≡ F.contents files.old file }
     ensures untouched { plain_name tasks.entry ≡ None → files.new ≡ files.old }

@@ -36,7 +36,8 @@ pub fn read_all<S: Source>(alloc: Global, source: &mut S) -> Result<Vec<u8>, Sta
     // Nothing but a fault, a script that is too long and want of memory stops it. A fault is answered as one.
     ensures only { IfErr result IsReadStop }
     ensures faults { Counts (IsErrOf result Status.ReadFault) (S.faults source.old) (S.faults source.new) }
-    ensures limit { IsErrOf result (Status.Limit 0 5) → IfSome (S.left source.old) (λ input. LONGEST_SCRIPT < length input) }
+    ensures limit { IsErrOf result (Status.Limit 0 5)
+        → IfSome (S.left source.old) (λ input. LONGEST_SCRIPT < length input) }
 {
     let mut bytes = Vec::new(alloc);
     let mut buf = vec![in alloc; 0u8; 4096]?;

@@ -7,6 +7,7 @@ pub mod ListLemmas
 pub mod NameLaws
 pub mod NumberLaws
 pub mod NumberLemmas
+pub mod NumbersLaws
 pub mod OneLaws
 pub mod PrintLemmas
 pub mod ReportLaws

@@ -13,6 +13,7 @@ use Rattle.std.specs.List.{All, join_with_byte, list_all, slice_split}
 use Rattle.std.specs.Option.{option_map_or}
 use Rattle.std.specs.Str.{bytes_eq}
 use Rattle.base64.specs.GeneralPurpose.{IsBytes}
+use Rattle.hex.specs.Hex.{encode_lower}
 use Rattle.dap_bytes.specs.Shown.{node_word}
 use Rattle.dap_bytes.specs.Name.{IsName, name_of}
 use Rattle.dap_bytes.specs.Spans.{one_bucket}
@@ -23,14 +24,15 @@ use Rattle.vdaf_api.specs.TaskNumbers.{IsExpiry}
 use Rattle.vdaf_api.specs.declared.kind.Kind.{Kind}
 use Rattle.dap_script.proofs.HexLaws.{octets_of-encode_lower, octets_spelled}
 use Rattle.dap_script.proofs.KindLaws.{kind_of-kind_words, kind_spelled, visible_kind}
-use Rattle.dap_script.proofs.NumberLaws.{bounded_of-decimal, bounded_spelled, number_of-decimal, number_spelled}
+use Rattle.dap_script.proofs.NumberLaws.{bounded_of-decimal, bounded_spelled, number_of-decimal}
+use Rattle.dap_script.proofs.NumbersLaws.{measurement_of-text, measurement_spelled, visible_list}
 use Rattle.dap_script.specs.OptionLaws.{guarded, if_some, map_or_cases}
 use Rattle.dap_script.proofs.ReportLaws.{report_of-encode_of, report_spelled, visible_report}
 use Rattle.dap_script.proofs.SplitLaws.{All-join_with_byte, Lacks, slice_split-join_with_byte}
 use Rattle.dap_script.proofs.Visible.{IsVisible, is_visible, visible_decimal, visible_hex, visible_name}
 use Rattle.dap_script.proofs.WordLaws.{All-slice_split, cut_fields, last_field, listed, middle_fields, name_of-itself, name_spelled, second_last_field, two_last}
-use Rattle.dap_script.specs.Fields.{◌>>=◌, bounded_of, buckets_written, kind_of, node_of, number_of, octets_of, report_of}
-use Rattle.dap_script.specs.Line.{collect_of, expiring, expiry_split, has_expiry, is_blank, kind_fields, line_of, line_of_words, measure_of, now_of, restart_of, task_of, task_until, task_with, upload_of}
+use Rattle.dap_script.specs.Fields.{◌>>=◌, bounded_of, buckets_written, kind_of, measurement_of, node_of, number_of, octets_of, report_of}
+use Rattle.dap_script.specs.Line.{collect_of, expiring, expiry_split, has_expiry, is_blank, kind_fields, line_of, line_of_words, measure_of, measure_with, now_of, restart_of, task_of, task_until, task_with, upload_of}
 use Rattle.dap_script.specs.Spelling.{AreWordsOf, IsInRange, IsWritten, SaysOne, SpellsLine, bucket_words, expiry_words, kind_words, span_words, spelling, words_of}
 use Rattle.dap_script.specs.Words.{is_line_char, is_space, word}
 use Rattle.dap_script.specs.declared.line.Line.TheVariants.{Blank, Collect, Measure, Now, Restart, Task, Upload}
@@ -99,15 +101,15 @@ measure_spelled : (fields : List (List ℕ)) (line : Line) → measure_of fields
 measure_spelled fields line h =
     let g = guarded (nat_eq (length fields) 5) _ line h in
     let all = listed 5 fields g.0 in
-    option_and_then_some _ (name_of (word fields 0)) line g.1 (λ name ename h1.
-    option_and_then_some _ (octets_of (word fields 1)) line h1 (λ id eid h2.
-    option_and_then_some _ (bounded_of 0 LATEST_TIME (word fields 2)) line h2 (λ time etime h3.
-    option_and_then_some _ (number_of (word fields 3)) line h3 (λ value evalue h4.
+    option_and_then_some _ (measurement_of (word fields 3)) line g.1 (λ value evalue h1.
+    option_and_then_some _ (name_of (word fields 0)) line h1 (λ name ename h2.
+    option_and_then_some _ (octets_of (word fields 1)) line h2 (λ id eid h3.
+    option_and_then_some _ (bounded_of 0 LATEST_TIME (word fields 2)) line h3 (λ time etime h4.
     option_and_then_some _ (octets_of (word fields 4)) line h4 (λ seed eseed h5.
     let n = name_spelled (word fields 0) name ename in
     let i = octets_spelled (word fields 1) id eid in
     let t = bounded_spelled 0 LATEST_TIME (word fields 2) time etime in
-    let v = number_spelled (word fields 3) value evalue in
+    let v = measurement_spelled (word fields 3) value evalue in
     let s = octets_spelled (word fields 4) seed eseed in
     subst (Spell (codes "measure" ∷ fields)) (same_Some (Measure name id time value seed) line h5)
     (ap (λ (fs : List (List ℕ)). codes "measure" ∷ fs) (cc (all, n.0, i.0, t.0, v.0, s.0)), (n.1, i.1, t.2, v.1, s.1)))))))
@@ -269,9 +271,9 @@ visible_words (Now t) h =
 visible_words (Measure name id time value seed) h =
     let keyword = AllPass-from_list_all is_visible (codes "measure") refl in
     let at = visible_decimal time (omega arith) in
-    let number = visible_decimal value h.3 in
+    let numbers = visible_list value h.3.words in
     All-from_recursion (All IsVisible) (words_of (Measure name id time value seed))
-    (keyword, (visible_name name h.0, (visible_hex id h.1, (at, (number, (visible_hex seed h.4, tt))))))
+    (keyword, (visible_name name h.0, (visible_hex id h.1, (at, (numbers, (visible_hex seed h.4, tt))))))
 visible_words (Upload report) h =
     let keyword = AllPass-from_list_all is_visible (codes "upload") refl in
     All-from_recursion (All IsVisible) (words_of (Upload report)) (keyword, (visible_report report h.1, tt))
@@ -393,11 +395,11 @@ line_of_words-words_of Blank some h = absurd (omega arith)
 line_of_words-words_of (Task name kind min precision expires) some h = task_of-words name kind min precision expires h
 line_of_words-words_of (Now t) some h = rw (bounded_of-decimal 0 LATEST_TIME t (omega arith) h (omega arith)) refl
 line_of_words-words_of (Measure name id time value seed) some h =
-    rw (
+    ap (λ o. o >>= λ numbers. measure_with name (encode_lower id) (decimal time) numbers (encode_lower seed)) (measurement_of-text value h.3)
+    ∙ rw (
       name_of-itself name h.0,
       octets_of-encode_lower id h.1,
       bounded_of-decimal 0 LATEST_TIME time (omega arith) h.2 (omega arith),
-      number_of-decimal value h.3,
       octets_of-encode_lower seed h.4,
     ) refl
 line_of_words-words_of (Upload report) some h = ap (λ o. o >>= λ bytes. Some (Upload bytes)) (report_of-encode_of report h.0 h.1)

@@ -6,7 +6,7 @@ use Rattle.std.specs.Str.{bytes_eq}
 use Rattle.dap_bytes.specs.Name.{name_of}
 use Rattle.dap_bytes.specs.declared.limits.TheConstants.{GREATEST_MINIMUM, GREATEST_PRECISION, LATEST_TIME}
 use Rattle.vdaf_api.specs.declared.kind.Kind.{Kind}
-use Rattle.dap_script.specs.Fields.{◌>>=◌, bounded_of, buckets_written, kind_of, node_of, number_of, octets_of, report_of}
+use Rattle.dap_script.specs.Fields.{◌>>=◌, bounded_of, buckets_written, kind_of, measurement_of, node_of, octets_of, report_of}
 use Rattle.dap_script.specs.Words.{word, is_line_char, is_number_sign, is_space}
 use Rattle.dap_script.specs.declared.line.Line.{Line}
 use Rattle.dap_script.specs.declared.line.Line.TheVariants.{Blank, Task, Now, Measure, Upload, Collect, Restart}
@@ -54,15 +54,20 @@ now_of fields = if nat_eq (length fields) 1 then (do
   t ← bounded_of 0 LATEST_TIME (word fields 0)
   Some (Now t)) else None
 
+-- the measurement of a value whose other words are these
+abbrev pub measure_with : List ℕ → List ℕ → List ℕ → List ℕ → List ℕ → Option Line
+measure_with name id time value seed = do
+  name ← name_of name
+  id ← octets_of id
+  time ← bounded_of 0 LATEST_TIME time
+  seed ← octets_of seed
+  Some (Measure name id time value seed)
+
 -- `measure NAME ID TIME VALUE SEED`, after the keyword
 abbrev pub measure_of : List (List ℕ) → Option Line
 measure_of fields = if nat_eq (length fields) 5 then (do
-  name ← name_of (word fields 0)
-  id ← octets_of (word fields 1)
-  time ← bounded_of 0 LATEST_TIME (word fields 2)
-  value ← number_of (word fields 3)
-  seed ← octets_of (word fields 4)
-  Some (Measure name id time value seed)) else None
+  value ← measurement_of (word fields 3)
+  measure_with (word fields 0) (word fields 1) (word fields 2) value (word fields 4)) else None
 
 -- `upload BASE64`, after the keyword
 abbrev pub upload_of : List (List ℕ) → Option Line

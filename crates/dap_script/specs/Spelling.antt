@@ -14,17 +14,23 @@ use Rattle.dap_bytes.specs.declared.span.Span.{Span}
 use Rattle.vdaf_api.specs.Kind.{IsKind}
 use Rattle.vdaf_api.specs.TaskNumbers.{IsExpiry}
 use Rattle.vdaf_api.specs.declared.kind.Kind.{Kind}
-use Rattle.vdaf_api.specs.declared.kind.Kind.TheVariants.{Count, Sum, Histogram}
+use Rattle.vdaf_api.specs.declared.kind.TheConstants.{MOST_NUMBERS}
+use Rattle.vdaf_api.specs.declared.kind.Kind.TheVariants.{Count, Sum, Histogram, Vector}
 use Rattle.dap_script.specs.Script.{is_among, lines_of, task_names}
 use Rattle.dap_script.specs.Words.{is_line_char}
 use Rattle.dap_script.specs.declared.line.Line.{Line}
 use Rattle.dap_script.specs.declared.line.Line.TheVariants.{Blank, Task, Now, Measure, Upload, Collect, Restart}
 
--- the words that spell a kind; a histogram's bounds have a comma between any two
+-- numbers with a comma between any two
+abbrev pub list_text : List ℕ → List ℕ
+list_text numbers = join_with_byte 44 (map decimal numbers)
+
+-- the words that spell a kind
 abbrev pub kind_words : Kind → List (List ℕ)
 kind_words Count = codes "count" ∷ []
 kind_words (Sum bits) = codes "sum" ∷ decimal bits ∷ []
-kind_words (Histogram bounds) = codes "histogram" ∷ join_with_byte 44 (map decimal bounds) ∷ []
+kind_words (Histogram bounds) = codes "histogram" ∷ list_text bounds ∷ []
+kind_words (Vector len bits) = codes "vector" ∷ decimal len ∷ decimal bits ∷ []
 
 -- the words at the end of a task line that say when the task expires
 abbrev pub expiry_words : Option ℕ → List (List ℕ)
@@ -50,7 +56,7 @@ words_of (Task name kind min precision expires) =
     codes "task" ∷ name ∷ kind_words kind ++ decimal min ∷ decimal precision ∷ expiry_words expires
 words_of (Now t) = codes "now" ∷ decimal t ∷ []
 words_of (Measure name id time value seed) =
-    codes "measure" ∷ name ∷ encode_lower id ∷ decimal time ∷ decimal value ∷ encode_lower seed ∷ []
+    codes "measure" ∷ name ∷ encode_lower id ∷ decimal time ∷ list_text value ∷ encode_lower seed ∷ []
 words_of (Upload report) = codes "upload" ∷ encode_of standard report ∷ []
 words_of (Collect name span) = codes "collect" ∷ name ∷ span_words span
 words_of (Restart node) = codes "restart" ∷ node_word node ∷ []
@@ -75,11 +81,22 @@ AreBytes bytes = All (λ byte. byte < 256) bytes
 abbrev pub IsOctets : List ℕ → Type 0
 IsOctets bytes = (length bytes ≡ 16) × AreBytes bytes
 
+-- each fits 64 bits
+abbrev pub AreWords : List ℕ → Type 0
+AreWords numbers = All (λ number. number < 2 ^ 64) numbers
+
+-- the numbers of a measurement: 1 to 1,024, each of which fits 64 bits
+pub record IsMeasurement (numbers : List ℕ) : Type 0 where
+  pub some : 1 ≤ length numbers
+  pub few : length numbers ≤ MOST_NUMBERS
+  pub words : AreWords numbers
+
 -- each bound of a histogram fits 64 bits
 abbrev pub HasWords : Kind → Type 0
 HasWords Count = Unit {0}
 HasWords (Sum bits) = Unit {0}
-HasWords (Histogram bounds) = All (λ bound. bound < 2 ^ 64) bounds
+HasWords (Histogram bounds) = AreWords bounds
+HasWords (Vector len bits) = Unit {0}
 
 -- each part of the line is in its range
 abbrev pub IsInRange : Line → Type 0
@@ -89,7 +106,7 @@ IsInRange (Task name kind min precision expires) =
     × (1 ≤ precision) × (precision ≤ GREATEST_PRECISION) × HasWords kind × IsExpiry expires
 IsInRange (Now t) = t ≤ LATEST_TIME
 IsInRange (Measure name id time value seed) =
-    IsName name × IsOctets id × (time ≤ LATEST_TIME) × (value < 2 ^ 64) × IsOctets seed
+    IsName name × IsOctets id × (time ≤ LATEST_TIME) × IsMeasurement value × IsOctets seed
 IsInRange (Upload report) = (0 < length report) × AreBytes report
 IsInRange (Collect name span) = IsName name × (span.start ≤ LATEST_TIME) × HasBuckets span
 IsInRange (Restart node) = Unit {0}

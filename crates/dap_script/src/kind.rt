@@ -1,12 +1,11 @@
 //! What a task line says that its task measures.
 
 ghost use Rattle.std.specs.Prelude.{◌≡◌, IfOk};
-ghost use Rattle.std.specs.List.{slice_split};
-ghost use Rattle.std.specs.Option.{option_map};
-ghost use Rattle.dap_script.specs.Fields.{numbers_of, count_of, sum_of, ranged, histogram_of, form_of, kind_of};
-ghost use Rattle.dap_script.specs.Words.{texts, is_comma};
+ghost use Rattle.dap_script.specs.Fields.{count_of, sum_of, ranged, histogram_of, vector_of, form_of, kind_of};
+ghost use Rattle.dap_script.specs.Words.{texts};
 
 use crate::fields::number;
+use crate::list::list;
 use std::alloc::{AllocError, Global};
 use vdaf_api::{Bounds, Kind};
 
@@ -35,27 +34,6 @@ fn sum(parts: &[&str]) -> Option<Kind>
     ranged(Kind::Sum { bits })
 }
 
-/// The parts between the commas of a text.
-fn split_at_commas(alloc: Global, text: &str) -> Result<Vec<&str>, AllocError>
-    ensures { IfOk result (λ parts. texts parts.items ≡ slice_split is_comma text.now) }
-{
-    text.split(',').collect(alloc)
-}
-
-/// The numbers that the words write, where each is one.
-fn numbers(alloc: Global, words: &[&str]) -> Result<Option<Vec<u64>>, AllocError>
-    ensures { IfOk result (λ numbers. option_map (λ v. v.items) numbers ≡ numbers_of (texts words.now)) }
-{
-    let mut numbers = Vec::new(alloc);
-    for word in words {
-        match number(word) {
-            Some(number) => numbers.push(number)?,
-            None => return Ok(None),
-        }
-    }
-    Ok(Some(numbers))
-}
-
 /// `B0,B1`
 fn histogram(alloc: Global, parts: &[&str]) -> Result<Option<Kind>, AllocError>
     ensures { IfOk result (λ kind. kind ≡ histogram_of (texts parts.now)) }
@@ -63,7 +41,7 @@ fn histogram(alloc: Global, parts: &[&str]) -> Result<Option<Kind>, AllocError>
     let [bounds] = *parts else {
         return Ok(None);
     };
-    match numbers(alloc, &split_at_commas(alloc, bounds)?)? {
+    match list(alloc, bounds)? {
         None => Ok(None),
         Some(bounds) => {
             let bounds = Bounds::new(bounds);
@@ -72,7 +50,22 @@ fn histogram(alloc: Global, parts: &[&str]) -> Result<Option<Kind>, AllocError>
     }
 }
 
-/// `count`, `sum BITS`, `histogram B0,B1`.
+/// `LEN BITS`
+fn vector(parts: &[&str]) -> Option<Kind>
+    ensures { result ≡ vector_of (texts parts.now) }
+{
+    let [len, bits] = *parts else {
+        return None;
+    };
+    let len = number(len)?;
+    let bits = number(bits)?;
+    ranged(Kind::Vector {
+        len: u16::try_from(len).ok()?,
+        bits: u8::try_from(bits).ok()?,
+    })
+}
+
+/// `count`, `sum BITS`, `histogram B0,B1`, `vector LEN BITS`.
 pub fn kind(alloc: Global, words: &[&str]) -> Result<Option<Kind>, AllocError>
     ensures { IfOk result (λ kind. kind ≡ kind_of (texts words.now)) }
 {
@@ -83,6 +76,7 @@ pub fn kind(alloc: Global, words: &[&str]) -> Result<Option<Kind>, AllocError>
         "count" => Ok(count(parts)),
         "sum" => Ok(sum(parts)),
         "histogram" => histogram(alloc, parts),
+        "vector" => Ok(vector(parts)),
         _ => Ok(None),
     }
 }

@@ -12,6 +12,7 @@ mod fields;
 mod kind;
 mod laws;
 mod line;
+mod list;
 mod print;
 mod reading;
 mod script;

@@ -6,11 +6,12 @@ ghost use Rattle.std.specs.Option.{option_map};
 ghost use Rattle.dap_script.specs.Line.{expiry_split, is_blank};
 ghost use Rattle.dap_script.specs.Words.{texts, is_line_char, is_space};
 
-use crate::fields::{bounded, buckets, node, number, octets, report, small};
+use crate::fields::{bounded, buckets, node, octets, report, small};
 use crate::kind::kind;
+use crate::list::measurement;
 use dap_bytes::{Bytes, GREATEST_MINIMUM, GREATEST_PRECISION, Id, LATEST_TIME, Name, Node, Span};
 use std::alloc::{AllocError, Global};
-use vdaf_api::Kind;
+use vdaf_api::{Kind, Measurement};
 
 /// One line of a script.
 #[derive(Debug, PartialEq, Eq, Drop)]
@@ -31,13 +32,13 @@ pub enum Line {
     Now {
         t: u64,
     },
-    /// A client's measurement: the task, the report's identifier, its time, the value that is measured, and the seed
-    /// from which the client draws.
+    /// A client's measurement: the task, the report's identifier, its time, the value that is measured, which is 1 to
+    /// `MOST_NUMBERS` numbers, and the seed from which the client draws.
     Measure {
         name: Name,
         id: Id,
         time: u64,
-        value: u64,
+        value: Measurement,
         seed: [u8; 16],
     },
     /// A client's report, as its bytes, which are at least one.
@@ -56,7 +57,7 @@ pub enum Line {
 }
 
 impl Line {
-    ghost use Rattle.dap_script.specs.Line.{task_with, task_until, task_of, now_of, measure_of, upload_of, collect_of, restart_of};
+    ghost use Rattle.dap_script.specs.Line.{task_with, task_until, task_of, now_of, measure_with, measure_of, upload_of, collect_of, restart_of};
     ghost use Rattle.dap_script.specs.Line.{line_of, line_of_words};
 
     fn task_with(
@@ -119,20 +120,35 @@ impl Line {
         })
     }
 
-    /// `NAME ID TIME VALUE SEED`
-    fn measure(fields: &[&str]) -> Option<Line>
-        ensures { result ≡ measure_of (texts fields.now) }
+    fn measure_with(
+        name: &str,
+        id: &str,
+        time: &str,
+        value: Measurement,
+        seed: &str,
+    ) -> Option<Line>
+        ensures { result ≡ measure_with name.now id.now time.now value seed.now }
     {
-        let [name, id, time, value, seed] = *fields else {
-            return None;
-        };
         Some(Line::Measure {
             name: Name::new(name.as_bytes())?,
             id: octets(id)?,
             time: bounded(time, 0, LATEST_TIME)?,
-            value: number(value)?,
+            value,
             seed: octets(seed)?,
         })
+    }
+
+    /// `NAME ID TIME VALUE SEED`
+    fn measure(alloc: Global, fields: &[&str]) -> Result<Option<Line>, AllocError>
+        ensures { IfOk result (λ line. line ≡ measure_of (texts fields.now)) }
+    {
+        let [name, id, time, value, seed] = *fields else {
+            return Ok(None);
+        };
+        match measurement(alloc, value)? {
+            None => Ok(None),
+            Some(value) => Ok(Line::measure_with(name, id, time, value, seed)),
+        }
     }
 
     /// `BASE64`
@@ -183,7 +199,7 @@ impl Line {
         match *keyword {
             "task" => Line::task(alloc, fields),
             "now" => Ok(Line::now(fields)),
-            "measure" => Ok(Line::measure(fields)),
+            "measure" => Line::measure(alloc, fields),
             "upload" => Line::upload(alloc, fields),
             "collect" => Ok(Line::collect(fields)),
             "restart" => Ok(Line::restart(fields)),

@@ -1,9 +1,9 @@
 //! Printing task lines, and the numbers and batches of other lines.
 
-ghost use Rattle.std.specs.Prelude.{◌≡◌, ◌++◌, map, None, OnOk, OnErr};
+ghost use Rattle.std.specs.Prelude.{◌≡◌, ◌++◌, None, OnOk, OnErr};
 ghost use Rattle.std.specs.Fmt.{decimal};
 ghost use Rattle.std.specs.List.{join_with_byte};
-ghost use Rattle.dap_script.specs.Spelling.{ended, expiry_text, kind_words, span_text, spelling};
+ghost use Rattle.dap_script.specs.Spelling.{ended, expiry_text, kind_words, list_text, span_text, spelling};
 ghost use Rattle.dap_script.specs.declared.line.Line.TheVariants.{Task};
 
 use dap_bytes::{Name, Span};
@@ -21,7 +21,7 @@ pub fn put_number(alloc: Global, out: &mut Vec<u8>, number: u128) -> Result<(), 
 
 /// Appends the numbers with a comma between any two.
 fn put_bounds(alloc: Global, out: &mut Vec<u8>, bounds: &[u64]) -> Result<(), AllocError>
-    ensures { OnOk result (out.new.items ≡ out.old.items ++ join_with_byte 44 (map decimal bounds.now)) }
+    ensures { OnOk result (out.new.items ≡ out.old.items ++ list_text bounds.now) }
 {
     let [first, others @ ..] = bounds else {
         return Ok(());
@@ -47,6 +47,12 @@ fn put_kind(alloc: Global, out: &mut Vec<u8>, kind: &Kind) -> Result<(), AllocEr
         Kind::Histogram { bounds } => {
             out.extend_from_slice(b"histogram ")?;
             put_bounds(alloc, out, bounds.as_slice())
+        }
+        Kind::Vector { len, bits } => {
+            out.extend_from_slice(b"vector ")?;
+            put_number(alloc, out, u128::from(*len))?;
+            out.push(b' ')?;
+            put_number(alloc, out, u128::from(*bits))
         }
     }
 }

@@ -7,15 +7,17 @@ use super::*;
 use dap_bytes::{Bytes, LONGEST_SCRIPT, Name, Node, Span};
 use std::alloc::{AllocError, Global};
 use std::test::Fail;
-use vdaf_api::{Bounds, Kind};
+use vdaf_api::{Bounds, Kind, Measurement};
 
 const TEXT: &[u8] = b"# every form of line
 task v count 3 3600\r
 
 task s-1 sum 64 1000000 1000000000 expires 999999999999999999
 task h_ histogram 0,10,18446744073709551615 1 1
+task w vector 63 32 1 1
 now 999999999999999999
 measure v 000102030405060708090a0b0c0d0e0f 10 18446744073709551615 ffffffffffffffffffffffffffffff00
+measure w 000102030405060708090a0b0c0d0e0f 11 3,0,18446744073709551615 ffffffffffffffffffffffffffffff00
 upload Zm8=
 collect v 7200
 collect v 7200 1
@@ -25,7 +27,7 @@ restart leader
 restart helper";
 
 /// Lines that are read, each as a script of its own.
-const TAKEN: [&[u8]; 31] = [
+const TAKEN: [&[u8]; 38] = [
     b"# \x00\x7f\r is a comment",
     b"# ends with a return\r",
     b"collect v 999999999999999999",
@@ -49,6 +51,13 @@ const TAKEN: [&[u8]; 31] = [
     b"task v histogram 0 1 1",
     b"task v histogram 1,2 1 1",
     b"task v histogram 18446744073709551615 1 1",
+    b"task v vector 1 1 1 1",
+    b"task v vector 1024 1 1 1",
+    b"task v vector 1023 2 1 1",
+    b"task v vector 63 32 1 1",
+    b"task v vector 1 32 1 1 expires 0",
+    b"measure v 000102030405060708090a0b0c0d0e0f 0 0,0 000102030405060708090a0b0c0d0e0f",
+    b"measure v 000102030405060708090a0b0c0d0e0f 0 1,18446744073709551615,2 000102030405060708090a0b0c0d0e0f",
     b"measure v 000102030405060708090a0b0c0d0e0f 0 0 000102030405060708090a0b0c0d0e0f",
     b"measure v 000102030405060708090a0b0c0d0e0f 999999999999999999 18446744073709551615 000102030405060708090a0b0c0d0e0f",
     b"upload Zg==",
@@ -60,7 +69,7 @@ const TAKEN: [&[u8]; 31] = [
 ];
 
 /// Lines that are refused.
-const REFUSED: [&[u8]; 98] = [
+const REFUSED: [&[u8]; 115] = [
     b"# \x80",
     b"collect v 0\r",
     b" # a",
@@ -135,7 +144,24 @@ const REFUSED: [&[u8]; 98] = [
     b"task v histogram 18446744073709551616 1 1",
     b"task v histogram 01 1 1",
     b"measure v 000102030405060708090a0b0c0d0e0f 1000000000000000000 0 000102030405060708090a0b0c0d0e0f",
+    b"task v vector 0 1 1 1",
+    b"task v vector 1025 1 1 1",
+    b"task v vector 1 0 1 1",
+    b"task v vector 1 33 1 1",
+    b"task v vector 1024 2 1 1",
+    b"task v vector 64 32 1 1",
+    b"task v vector 65537 1 1 1",
+    b"task v vector 1 257 1 1",
+    b"task v vector 1 01 1 1",
+    b"task v vector 1 1 1",
+    b"task v vector 1 1 1 1 1",
+    b"task v vector 1,1 1 1",
     b"measure v 000102030405060708090a0b0c0d0e0f 0 18446744073709551616 000102030405060708090a0b0c0d0e0f",
+    b"measure v 000102030405060708090a0b0c0d0e0f 0 1,18446744073709551616 000102030405060708090a0b0c0d0e0f",
+    b"measure v 000102030405060708090a0b0c0d0e0f 0 1, 000102030405060708090a0b0c0d0e0f",
+    b"measure v 000102030405060708090a0b0c0d0e0f 0 ,1 000102030405060708090a0b0c0d0e0f",
+    b"measure v 000102030405060708090a0b0c0d0e0f 0 1,,2 000102030405060708090a0b0c0d0e0f",
+    b"measure v 000102030405060708090a0b0c0d0e0f 0 1,02 000102030405060708090a0b0c0d0e0f",
     b"measure v 000102030405060708090a0b0c0d0e0 0 0 000102030405060708090a0b0c0d0e0f",
     b"measure v 000102030405060708090a0b0c0d0e0f0 0 0 000102030405060708090a0b0c0d0e0f",
     b"measure v 000102030405060708090a0b0c0d0e0f 0 0 000102030405060708090a0b0c0d0e",
@@ -209,14 +235,25 @@ fn collection(name: Name, start: u64, buckets: u8) -> Line {
     }
 }
 
+/// A measurement of the time and these numbers, under the name and with the identifier and the seed of all of them.
+fn measurement(alloc: Global, text: &[u8], time: u64, numbers: &[u64]) -> Result<Line, Fail> {
+    let mut seed = [255; 16];
+    seed[15] = 0;
+    Ok(Line::Measure {
+        name: name(text)?,
+        id: [0, 1, 2, 3, 4, 5, 6, 7, 8, 9, 10, 11, 12, 13, 14, 15],
+        time,
+        value: Measurement::new(Vec::from_slice(alloc, numbers)?),
+        seed,
+    })
+}
+
 #[test]
 fn a_script_is_its_lines(rt: HostRuntime) -> Result<(), Fail> {
     let alloc = rt.alloc();
     let v = name(b"v")?;
     let bounds = Bounds::new(Vec::from_slice(alloc, &[0, 10, u64::MAX])?);
     let report = Bytes::new(Vec::from_slice(alloc, b"fo")?);
-    let mut seed = [255; 16];
-    seed[15] = 0;
     let expected = [
         Line::Blank,
         task(b"v", Kind::Count, 3, 3600, None)?,
@@ -229,16 +266,12 @@ fn a_script_is_its_lines(rt: HostRuntime) -> Result<(), Fail> {
             Some(999_999_999_999_999_999),
         )?,
         task(b"h_", Kind::Histogram { bounds }, 1, 1, None)?,
+        task(b"w", Kind::Vector { len: 63, bits: 32 }, 1, 1, None)?,
         Line::Now {
             t: 999_999_999_999_999_999,
         },
-        Line::Measure {
-            name: v,
-            id: [0, 1, 2, 3, 4, 5, 6, 7, 8, 9, 10, 11, 12, 13, 14, 15],
-            time: 10,
-            value: u64::MAX,
-            seed,
-        },
+        measurement(alloc, b"v", 10, &[u64::MAX])?,
+        measurement(alloc, b"w", 11, &[3, 0, u64::MAX])?,
         Line::Upload { report },
         collection(v, 7200, 1),
         collection(v, 7200, 1),
@@ -277,13 +310,14 @@ fn lines_are_read_or_refused(rt: HostRuntime) -> Result<(), Fail> {
     Ok(())
 }
 
-/// The line of a histogram with so many bounds, but at least one: 0, 1, 2 and so on.
-fn histogram_line(alloc: Global, size: u32) -> Result<String, Fail> {
-    let mut line = String::from_str(alloc, "task v histogram 0")?;
-    for bound in 1..size {
-        line.push_str(format!(in alloc; ",{bound}")?.as_str())?;
+/// A line with so many numbers between two texts, but at least one: 0, 1, 2 and so on.
+fn line_of_numbers(alloc: Global, front: &str, size: u32, back: &str) -> Result<String, Fail> {
+    let mut line = String::from_str(alloc, front)?;
+    line.push_str("0")?;
+    for number in 1..size {
+        line.push_str(format!(in alloc; ",{number}")?.as_str())?;
     }
-    line.push_str(" 1 1")?;
+    line.push_str(back)?;
     Ok(line)
 }
 
@@ -291,12 +325,30 @@ fn histogram_line(alloc: Global, size: u32) -> Result<String, Fail> {
 fn a_histogram_has_at_most_1023_bounds(rt: HostRuntime) -> Result<(), Fail> {
     let alloc = rt.alloc();
     for (size, refused) in [(64, 0), (1023, 0), (1024, 1)] {
-        let line = histogram_line(alloc, size)?;
+        let line = line_of_numbers(alloc, "task v histogram ", size, " 1 1")?;
         if line.len() <= LONGEST_SCRIPT {
             assert_eq!(rt;
                 refused_line(alloc, line.as_bytes())?,
                 refused,
                 "{size} bounds"
+            );
+        }
+    }
+    Ok(())
+}
+
+#[test]
+fn a_measurement_has_at_most_1024_numbers(rt: HostRuntime) -> Result<(), Fail> {
+    let alloc = rt.alloc();
+    let front = "measure v 000102030405060708090a0b0c0d0e0f 0 ";
+    let back = " 000102030405060708090a0b0c0d0e0f";
+    for (size, refused) in [(2, 0), (1024, 0), (1025, 1)] {
+        let line = line_of_numbers(alloc, front, size, back)?;
+        if line.len() <= LONGEST_SCRIPT {
+            assert_eq!(rt;
+                refused_line(alloc, line.as_bytes())?,
+                refused,
+                "{size} numbers"
             );
         }
     }
@@ -371,6 +423,7 @@ fn a_task_is_printed_as_its_line(rt: HostRuntime) -> Result<(), Fail> {
             20,
             Some(999_999_999_999_999_999),
         ),
+        (b"w", Kind::Vector { len: 1024, bits: 1 }, 2, 1, Some(9)),
     ];
     for (text, kind, min, precision, expires) in &tasks {
         print_task(
@@ -389,6 +442,7 @@ fn a_task_is_printed_as_its_line(rt: HostRuntime) -> Result<(), Fail> {
 task v count 3 3600
 task s-1 sum 64 1 1 expires 0
 task h histogram 0,10,18446744073709551615 7 20 expires 999999999999999999
+task w vector 1024 1 2 1 expires 9
 "
             .as_slice()
     );

@@ -35,12 +35,12 @@ opened_report-honest t id time p =
     λ i. record { key = t.verify; id = id; public = p.public; leader = l i; helper = h i }
 
 -- what an honest report is made of
-pub record IsHonest (f : Functions) (t : PlainTask) (id : List ℕ) (time m : ℕ) (seed : List ℕ) (r : Report) : Type 0 where
+pub record IsHonest (f : Functions) (t : PlainTask) (id : List ℕ) (time : ℕ) (m seed : List ℕ) (r : Report) : Type 0 where
   pub parts : Parts
   pub sharded : f.shard id m seed ≡ Some parts
   pub is : report_of t id time parts ≡ r
 
-pub honest-is : (f : Functions) (t : PlainTask) (id : List ℕ) (time m : ℕ) (seed : List ℕ) (r : Report) → honest_report f t id time m seed ≡ Some r
+pub honest-is : (f : Functions) (t : PlainTask) (id : List ℕ) (time : ℕ) (m seed : List ℕ) (r : Report) → honest_report f t id time m seed ≡ Some r
     → IsHonest f t id time m seed r
 honest-is f t id time m seed r e = go (f.shard id m seed) refl e
   where
@@ -48,7 +48,7 @@ honest-is f t id time m seed r e = go (f.shard id m seed) refl e
     go (Some p) h k = let same : report_of t id time p ≡ r = cc in record { parts = p; sharded = h; is = same }
     go None h k = absurd (cc)
 
-pub honest-counted : {f : Functions} → FunctionLaws f → (t : PlainTask) (id : List ℕ) (time m : ℕ) (seed : List ℕ) (r : Report)
+pub honest-counted : {f : Functions} → FunctionLaws f → (t : PlainTask) (id : List ℕ) (time : ℕ) (m seed : List ℕ) (r : Report)
     → length t.verify ≡ 16 → length id ≡ 16 → length seed ≡ 16 → honest_report f t id time m seed ≡ Some r → f.is_fair t.verify id ≡ true
     → content_numbers_of f t r ≡ f.encoding m
 honest-counted {f} laws t id time m seed r hk hi hs e fair =

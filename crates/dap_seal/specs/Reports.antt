@@ -69,6 +69,6 @@ report_of t id time p = record {
   helper = sealed_by t.helper Helper (head_with t id time p) p.helper;
 }
 
--- the honest report of a measurement with a seed, where sharding has a value
-abbrev pub honest_report : Functions → PlainTask → List ℕ → ℕ → ℕ → List ℕ → Option Report
-honest_report f t id time m seed = option_map (report_of t id time) (f.shard id m seed)
+-- the honest report of a list of numbers with a seed, where sharding has a value
+abbrev pub honest_report : Functions → PlainTask → List ℕ → ℕ → List ℕ → List ℕ → Option Report
+honest_report f t id time ms seed = option_map (report_of t id time) (f.shard id ms seed)

@@ -132,7 +132,8 @@ impl SealedHalf<'_> {
         vdaf: &V,
         step: &Step,
     ) -> Result<Step, AllocError>
-        ensures item { IfOk result (λ item. item ≡ item_from (V.functions vdaf.now) (half_as Leader self.now) step.now) }
+        ensures item { IfOk result
+            (λ item. item ≡ item_from (V.functions vdaf.now) (half_as Leader self.now) step.now) }
         ensures failed { (code : Code) → step.now ≡ Failed code → result ≡ Ok (Failed code) }
     {
         let theirs = match step {

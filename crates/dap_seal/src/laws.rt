@@ -30,7 +30,8 @@ pub fn helper_steps_are_of_their_half()
 /// prep share (5), the leader's half doesn't open (4), the leader's prep share, the prep message or its own out share has
 /// no value (5), the helper's out share has none (5); else it is ok, with both out shares.
 pub fn verdicts_go_by_the_first_rule()
-    ensures { (f : Functions) (t : PlainTask) (r : Report) → GoesByTheFirstRule f (opened_report t r) (verdict_of f t r) }
+    ensures { (f : Functions) (t : PlainTask) (r : Report)
+        → GoesByTheFirstRule f (opened_report t r) (verdict_of f t r) }
 {}
 
 /// A law: what both aggregators say of a report in turn, from the helper's first step to the leader's share and the helper's
@@ -41,7 +42,8 @@ pub fn turns_come_to_the_verdict()
 
 /// A law: an honest fair report has the verdict ok, and its content is the measurement's vector.
 pub fn honest_fair_reports_are_counted<V: Vdaf>(vdaf: &V)
-    ensures { (t : PlainTask) (id : List ℕ) (time m : ℕ) (seed : List ℕ) (r : Report) → length t.verify ≡ 16 → length id ≡ 16 → length seed ≡ 16
+    ensures { (t : PlainTask) (id : List ℕ) (time : ℕ) (m seed : List ℕ) (r : Report)
+        → length t.verify ≡ 16 → length id ≡ 16 → length seed ≡ 16
         → honest_report (V.functions vdaf.now) t id time m seed ≡ Some r → (V.functions vdaf.now).is_fair t.verify id ≡ true
         → content_numbers_of (V.functions vdaf.now) t r ≡ (V.functions vdaf.now).encoding m }
 {}

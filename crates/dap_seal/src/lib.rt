@@ -24,7 +24,7 @@ pub use laws::{
     helper_steps_are_of_their_half, honest_fair_reports_are_counted, sealed_shares_are_opened,
     turns_come_to_the_verdict, verdicts_go_by_the_first_rule,
 };
-pub use make::make_report;
+pub use make::{make_list_report, make_report};
 pub use part::prepare_part;
 pub use seal::{OpenFault, Seal};
 pub use turn::{helper_outcome, leader_item, leader_share, prep_step, told};

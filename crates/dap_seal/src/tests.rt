@@ -85,6 +85,21 @@ fn an_honest_report_is_spelled(rt: HostRuntime) -> Result<(), Fail> {
     Ok(())
 }
 
+#[test]
+fn an_honest_report_of_a_list_of_one_is_that_of_its_number(rt: HostRuntime) -> Result<(), Fail> {
+    let alloc = rt.alloc();
+    let task = count_task(&rt);
+    let seed = [0, 1, 2, 3, 4, 5, 6, 7, 8, 9, 10, 11, 12, 13, 14, 15];
+    let report = make_list_report(alloc, &task, &Toy {}, &ID, 10, &[7], &seed)?;
+    assert_eq!(rt; report.as_slice(), REPORT.as_slice());
+    let others: [&[u64]; 3] = [&[], &[7, 0], &[4_294_967_296]];
+    for other in others {
+        let report = make_list_report(alloc, &task, &Toy {}, &ID, 10, other, &seed);
+        assert!(rt; matches!(report, Err(ShardFault::BadValue)));
+    }
+    Ok(())
+}
+
 /// The task `v` of the report above.
 fn count_task(rt: &impl Abort) -> Task {
     trial(

@@ -1,5 +1,5 @@
 -- What a table is read as, it has, and what it has is read.
-use Rattle.std.proofs.Common.{◌≡◌, ℕ, ℤ, pos, negsuc, ◌^◌, ◌<◌, ◌≤◌, List, [], ◌∷◌, true, nat_le, codes, ◌&&◌, Option, Some, None, Result, Ok, Err, refl, ap, ◌∙◌, subst, arith}
+use Rattle.std.proofs.Common.{◌≡◌, ℕ, ◌*◌, ℤ, pos, negsuc, ◌^◌, ◌<◌, ◌≤◌, List, [], ◌∷◌, true, nat_le, codes, ◌&&◌, Option, Some, None, Result, Ok, Err, refl, ap, ◌∙◌, subst, arith}
 use Rattle.std.proofs.lemmas.Bool.{and_parts, leb-true, le-leb}
 use Rattle.std.proofs.lemmas.List.Elements.{All-cons, All-head, All-nil, All-tail}
 use Rattle.std.proofs.lemmas.Option.{cond_some, option_and_then_some, same_Some}
@@ -13,7 +13,8 @@ use Rattle.dap_bytes.specs.declared.limits.TheConstants.{LATEST_TIME}
 use Rattle.vdaf_api.proofs.Ranges.{is_kind-decides}
 use Rattle.vdaf_api.specs.Kind.{AreBounds, is_kind}
 use Rattle.vdaf_api.specs.declared.kind.Kind.TheVariants.{Histogram}
-use Rattle.dap_tasks.specs.Fields.{ranged, number_of, numbers_of, bounds_of, octets_of, keys_of, field, optional_field}
+use Rattle.vdaf_api.specs.declared.kind.TheConstants.{MOST_INPUT, MOST_NUMBER_BITS}
+use Rattle.dap_tasks.specs.Fields.{ranged, number_of, numbers_of, bits_of, bounds_of, octets_of, keys_of, field, optional_field}
 use Rattle.dap_tasks.specs.TaskFile.{Holds, HoldsExpiry, HoldsNumber, HoldsOctets, HoldsKeys, integers}
 use Rattle.vdaf_api.specs.declared.keys.SealKeys.{SealKeys}
 
@@ -75,6 +76,16 @@ pub number_read : (entries : Members) (key : List ℕ) (least greatest n : ℕ) 
 number_read entries key least greatest n e = field_holds key (number_of least greatest) entries n e (λ value found read.
     let r = number_value least greatest value n read in
     record { holds = found ∙ ap Some r.0; not_below = r.1; not_above = r.2 })
+
+-- how many bits each number of a vector has
+pub bits_read : (entries : Members) (len bits : ℕ) → field (codes "bits") (bits_of len) entries ≡ Ok bits
+    → HoldsNumber entries (codes "bits") 1 MOST_NUMBER_BITS bits × (len * bits ≤ MOST_INPUT)
+bits_read entries len bits e = field_holds (codes "bits") (bits_of len) entries bits e (λ value found read.
+    option_and_then_some _ (number_of 1 MOST_NUMBER_BITS value) bits read (λ n is k.
+    let p = cond_some (nat_le (len * n) MOST_INPUT) n bits k in
+    let r = number_value 1 MOST_NUMBER_BITS value n is in
+    subst (λ m. HoldsNumber entries (codes "bits") 1 MOST_NUMBER_BITS m × (len * m ≤ MOST_INPUT)) p.1
+    (record { holds = found ∙ ap Some r.0; not_below = r.1; not_above = r.2 }, leb-true (len * n) MOST_INPUT p.0)))
 
 -- a number that may be missing
 pub expiry_read : (entries : Members) (expires : Option ℕ) → optional_field (codes "expires") (number_of 0 LATEST_TIME) entries ≡ Ok expires → HoldsExpiry entries expires
@@ -144,6 +155,11 @@ keys_read entries key keys e = field_holds key keys_of entries keys e (λ value 
 
 pub number_back : (entries : Members) (key : List ℕ) (least greatest n : ℕ) → HoldsNumber entries key least greatest n → field key (number_of least greatest) entries ≡ Ok n
 number_back entries key least greatest n h = rw (h.holds, le-leb least n h.not_below, le-leb n greatest h.not_above) refl
+
+pub bits_back : (entries : Members) (len bits : ℕ) → HoldsNumber entries (codes "bits") 1 MOST_NUMBER_BITS bits → len * bits ≤ MOST_INPUT
+    → field (codes "bits") (bits_of len) entries ≡ Ok bits
+bits_back entries len bits h few =
+    rw (h.holds, le-leb 1 bits h.not_below, le-leb bits MOST_NUMBER_BITS h.not_above, le-leb (len * bits) MOST_INPUT few) refl
 
 pub expiry_back : (entries : Members) (expires : Option ℕ) → HoldsExpiry entries expires → optional_field (codes "expires") (number_of 0 LATEST_TIME) entries ≡ Ok expires
 expiry_back entries None h = rw h refl

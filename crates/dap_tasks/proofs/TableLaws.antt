@@ -9,12 +9,13 @@ use Rattle.toml.specs.Data.{string, Members, as_str}
 use Rattle.dap_bytes.specs.Name.{IsName, is_name, name_of}
 use Rattle.dap_bytes.specs.declared.limits.TheConstants.{LATEST_TIME}
 use Rattle.vdaf_api.specs.declared.kind.Kind.{Kind}
-use Rattle.vdaf_api.specs.declared.kind.Kind.TheVariants.{Count, Sum, Histogram}
-use Rattle.dap_tasks.specs.Fields.{number_of, bounds_of, octets_of, keys_of, new_name_of, unless_taken, field, optional_field, first_of, is_other, refused, no_others, table_keys}
+use Rattle.vdaf_api.specs.declared.kind.TheConstants.{MOST_NUMBERS}
+use Rattle.vdaf_api.specs.declared.kind.Kind.TheVariants.{Count, Sum, Histogram, Vector}
+use Rattle.dap_tasks.specs.Fields.{number_of, bits_of, bounds_of, octets_of, keys_of, new_name_of, unless_taken, field, optional_field, first_of, is_other, refused, no_others, table_keys}
 use Rattle.dap_tasks.specs.File.{◌>>=◌, kind_named, kind_of, task_of}
 use Rattle.dap_tasks.specs.Task.{PlainTask, has_name}
 use Rattle.dap_tasks.specs.TaskFile.{Holds, HoldsKind, IsTaskTable}
-use Rattle.dap_tasks.proofs.FieldLaws.{field_holds, string_read, number_read, number_back, expiry_read, expiry_back, octets_read, octets_back, keys_read, keys_back, bounds_value, bounds_back}
+use Rattle.dap_tasks.proofs.FieldLaws.{field_holds, string_read, number_read, number_back, bits_read, bits_back, expiry_read, expiry_back, octets_read, octets_back, keys_read, keys_back, bounds_value, bounds_back}
 
 -- the step before, where there is a value
 pub after_ok : {A B E P : Type 0} (f : A → Result B E) (r : Result A E) (y : B) → (r >>= f) ≡ Ok y → ((x : A) → r ≡ Ok x → f x ≡ Ok y → P) → P
@@ -70,7 +71,13 @@ kind_named_read entries word kind holds e =
     field_holds (codes "bounds") bounds_of entries bounds read (λ value found is.
     let r = bounds_value value bounds is in
     subst (HoldsKind entries) (same_Ok (Histogram bounds) kind k) (word_read entries word (codes "histogram") holds b, found ∙ ap Some r.0, r.1, r.2))))
-    (λ e4. cc e4)))
+    (λ e4. if_ok (bytes_eq word (codes "vector")) _ _ kind e4
+    (λ b h. after_ok _ (field (codes "len") (number_of 1 MOST_NUMBERS) entries) kind h (λ len read k.
+    after_ok _ (field (codes "bits") (bits_of len) entries) kind k (λ bits sized l.
+    let s = bits_read entries len bits sized in
+    subst (HoldsKind entries) (same_Ok (Vector len bits) kind l)
+    (word_read entries word (codes "vector") holds b, number_read entries (codes "len") 1 MOST_NUMBERS len read, s.0, s.1))))
+    (λ e5. cc e5))))
 
 kind_read : (entries : Members) (kind : Kind) → kind_of entries ≡ Ok kind → HoldsKind entries kind
 kind_read entries kind e =
@@ -82,6 +89,7 @@ kind_back : (entries : Members) (kind : Kind) → HoldsKind entries kind → kin
 kind_back entries Count h = rw h refl
 kind_back entries (Sum bits) h = rw (h.0, number_back entries (codes "bits") 1 64 bits h.1) refl
 kind_back entries (Histogram bounds) h = rw (h.0, bounds_back entries (codes "bounds") bounds h.1 h.2 h.3) refl
+kind_back entries (Vector len bits) h = rw (h.0, number_back entries (codes "len") 1 MOST_NUMBERS len h.1, bits_back entries len bits h.2 h.3) refl
 
 -- ---- other keys
 

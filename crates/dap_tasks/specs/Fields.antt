@@ -1,5 +1,5 @@
 -- What the values of a task's keys in a task file say.
-use Rattle.std.specs.Prelude.{ℕ, ℤ, pos, negsuc, List, [], ◌∷◌, ◌++◌, slice_range, codes, Bool, ◌&&◌, not, nat_le, if◌then◌else◌, Option, Some, None, Result, Ok, Err, ok_or, filter}
+use Rattle.std.specs.Prelude.{ℕ, ◌*◌, ℤ, pos, negsuc, List, [], ◌∷◌, ◌++◌, slice_range, codes, Bool, ◌&&◌, not, nat_le, if◌then◌else◌, Option, Some, None, Result, Ok, Err, ok_or, filter}
 use Rattle.std.specs.List.{list_any}
 use Rattle.std.specs.Option.{option_and_then, option_map_or}
 use Rattle.std.specs.Ordering.{nat_cmp, is_lt}
@@ -11,7 +11,8 @@ use Rattle.toml.specs.Data.{Data, Items, no_items, item, Members, no_members, me
 use Rattle.dap_bytes.specs.Name.{name_of}
 use Rattle.vdaf_api.specs.Kind.{is_kind}
 use Rattle.vdaf_api.specs.declared.kind.Kind.{Kind}
-use Rattle.vdaf_api.specs.declared.kind.Kind.TheVariants.{Count, Sum, Histogram}
+use Rattle.vdaf_api.specs.declared.kind.TheConstants.{MOST_INPUT, MOST_NUMBER_BITS}
+use Rattle.vdaf_api.specs.declared.kind.Kind.TheVariants.{Count, Sum, Histogram, Vector}
 use Rattle.dap_tasks.specs.Task.{PlainTask, has_name}
 use Rattle.dap_tasks.specs.declared.fields.TheConstants.{MAX_BOUND}
 use Rattle.vdaf_api.specs.declared.keys.SealKeys.{SealKeys}
@@ -50,6 +51,12 @@ bounds_of value = do
   items ← as_array value
   bounds ← numbers_of items
   ascending bounds
+
+-- how many bits each of len numbers of a vector has: 1 to 32, and all together no more than a vector may have
+abbrev pub bits_of : ℕ → Data → Option ℕ
+bits_of len value = do
+  bits ← number_of 1 MOST_NUMBER_BITS value
+  if nat_le (len * bits) MOST_INPUT then Some bits else None
 
 -- a string of twice as many hex digits, of either case, as there are bytes
 abbrev pub octets_of : ℕ → Data → Option (List ℕ)
@@ -93,6 +100,7 @@ abbrev pub keys_of_kind : Kind → List (List ℕ)
 keys_of_kind Count = []
 keys_of_kind (Sum bits) = codes "bits" ∷ []
 keys_of_kind (Histogram bounds) = codes "bounds" ∷ []
+keys_of_kind (Vector len bits) = codes "len" ∷ codes "bits" ∷ []
 
 -- the keys that every task has
 abbrev pub common_keys : List (List ℕ)

@@ -6,9 +6,10 @@ use Rattle.toml.specs.Data.{Items, no_items, item, Members, as_str, as_array, as
 use Rattle.toml.specs.Parse.{parse_document}
 use Rattle.dap_bytes.specs.declared.limits.TheConstants.{GREATEST_MINIMUM, GREATEST_PRECISION, LATEST_TIME, LONGEST_TASK_FILE}
 use Rattle.vdaf_api.specs.declared.kind.Kind.{Kind}
-use Rattle.vdaf_api.specs.declared.kind.Kind.TheVariants.{Count, Sum, Histogram}
+use Rattle.vdaf_api.specs.declared.kind.TheConstants.{MOST_NUMBERS}
+use Rattle.vdaf_api.specs.declared.kind.Kind.TheVariants.{Count, Sum, Histogram, Vector}
 use Rattle.dap_tasks.specs.Task.{PlainTask}
-use Rattle.dap_tasks.specs.Fields.{field, optional_field, number_of, bounds_of, octets_of, keys_of, new_name_of, no_others, table_keys}
+use Rattle.dap_tasks.specs.Fields.{field, optional_field, number_of, bits_of, bounds_of, octets_of, keys_of, new_name_of, no_others, table_keys}
 
 -- why a file is no list of tasks: the task, counted from 1, or 0 for the file as a whole, and its field
 pub record Refusal : Type 0 where
@@ -33,13 +34,21 @@ histogram_of table = do
   bounds ← field (codes "bounds") bounds_of table
   Ok (Histogram bounds)
 
+-- `vector`, with its `len` and its `bits`
+abbrev pub vector_of : Members → Result Kind (List ℕ)
+vector_of table = do
+  len ← field (codes "len") (number_of 1 MOST_NUMBERS) table
+  bits ← field (codes "bits") (bits_of len) table
+  Ok (Vector len bits)
+
 -- the kind that a word names, with what the table has for it
 abbrev pub kind_named : List ℕ → Members → Result Kind (List ℕ)
 kind_named word table =
     if bytes_eq word (codes "count") then Ok Count
     else (if bytes_eq word (codes "sum") then sum_of table
     else (if bytes_eq word (codes "histogram") then histogram_of table
-    else Err (codes "kind")))
+    else (if bytes_eq word (codes "vector") then vector_of table
+    else Err (codes "kind"))))
 
 -- the kind of a task
 abbrev pub kind_of : Members → Result Kind (List ℕ)

@@ -1,5 +1,5 @@
 -- Which bytes are a file of tasks, whatever the order of the checks.
-use Rattle.std.specs.Prelude.{◌≡◌, ℕ, ◌+◌, ◌^◌, ◌<◌, ◌≤◌, pos, List, [], ◌∷◌, ◌++◌, length, slice_range, codes, false, All, Option, Some, None, Ok, Err, IsUtf8}
+use Rattle.std.specs.Prelude.{◌≡◌, ℕ, ◌+◌, ◌*◌, ◌^◌, ◌<◌, ◌≤◌, pos, List, [], ◌∷◌, ◌++◌, length, slice_range, codes, false, All, Option, Some, None, Ok, Err, IsUtf8}
 use Rattle.std.specs.List.{AllZip}
 use Rattle.hex.specs.Hex.{decode_sized}
 use Rattle.toml.specs.Data.{Data, string, integer, array, table, Items, no_items, item, Members, no_members, member, get_member}
@@ -8,7 +8,8 @@ use Rattle.dap_bytes.specs.Name.{IsName}
 use Rattle.dap_bytes.specs.declared.limits.TheConstants.{GREATEST_MINIMUM, GREATEST_PRECISION, LATEST_TIME, LONGEST_TASK_FILE}
 use Rattle.vdaf_api.specs.Kind.{AreBounds}
 use Rattle.vdaf_api.specs.declared.kind.Kind.{Kind}
-use Rattle.vdaf_api.specs.declared.kind.Kind.TheVariants.{Count, Sum, Histogram}
+use Rattle.vdaf_api.specs.declared.kind.TheConstants.{MOST_INPUT, MOST_NUMBER_BITS, MOST_NUMBERS}
+use Rattle.vdaf_api.specs.declared.kind.Kind.TheVariants.{Count, Sum, Histogram, Vector}
 use Rattle.dap_tasks.specs.Fields.{is_other, table_keys}
 use Rattle.dap_tasks.specs.File.{Refusal, task_of}
 use Rattle.dap_tasks.specs.Task.{PlainTask}
@@ -51,6 +52,9 @@ HoldsKind members (Sum bits) =
 HoldsKind members (Histogram bounds) =
     Holds members (codes "kind") (string (codes "histogram")) × Holds members (codes "bounds") (array (integers bounds))
     × AreBounds bounds × All (λ bound. bound < 2 ^ 63) bounds
+HoldsKind members (Vector len bits) =
+    Holds members (codes "kind") (string (codes "vector")) × HoldsNumber members (codes "len") 1 MOST_NUMBERS len
+    × HoldsNumber members (codes "bits") 1 MOST_NUMBER_BITS bits × (len * bits ≤ MOST_INPUT)
 
 -- the table says when the task expires, or lacks the key where it never does
 abbrev pub HoldsExpiry : Members → Option ℕ → Type 0

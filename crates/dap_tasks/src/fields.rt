@@ -1,22 +1,23 @@
 //! The values that a task's keys have in a task file.
 
-ghost use Rattle.std.specs.Prelude.{◌≡◌, ◌≤◌, IfOk, IfSome};
+ghost use Rattle.std.specs.Prelude.{◌≡◌, ◌≤◌, ◌*◌, IfOk, IfSome};
 ghost use Rattle.std.specs.List.{list_any};
 ghost use Rattle.std.specs.Option.{option_map, option_and_then};
 ghost use Rattle.toml.specs.Data.{as_str, as_array};
 ghost use Rattle.toml.specs.View.{view, items_view};
-ghost use Rattle.dap_tasks.specs.Fields.{number_of, numbers_of, ascending, bounds_of, octets_of, keys_of, new_name_of};
+ghost use Rattle.dap_tasks.specs.Fields.{number_of, numbers_of, ascending, bits_of, bounds_of, octets_of, keys_of, new_name_of};
 ghost use Rattle.dap_tasks.specs.Reads.{value_of};
 ghost use Rattle.dap_tasks.specs.Task.{has_name};
 ghost use Rattle.vdaf_api.specs.Kind.{IsKind};
 ghost use Rattle.vdaf_api.specs.declared.kind.Kind.TheVariants as PlainKind;
+ghost use Rattle.vdaf_api.specs.declared.kind.TheConstants.{MOST_INPUT, MOST_NUMBER_BITS};
 
 use crate::task::Task;
 use dap_bytes::Name;
 use hex::FromHex;
 use std::alloc::{AllocError, Global};
 use toml::{Table, Value};
-use vdaf_api::{Bounds, Kind, SealKeys};
+use vdaf_api::{Bounds, Kind, MOST_INPUT, MOST_NUMBER_BITS, SealKeys};
 
 /// The greatest whole number that a file can write.
 const MAX_BOUND: u64 = 9_223_372_036_854_775_807;
@@ -59,7 +60,8 @@ pub fn word_at<'a>(table: &'a Table, key: &str) -> Option<&'a str>
 
 /// An array at a key.
 pub fn array_at<'a>(table: &'a Table, key: &str) -> Option<&'a [Value]>
-    ensures { option_map (λ values. items_view values.now) result ≡ option_and_then as_array (value_of key.now table.now) }
+    ensures { option_map (λ values. items_view values.now) result ≡ option_and_then as_array
+        (value_of key.now table.now) }
 {
     let values = value_at(table, key)?.as_array()?;
     Some(values.as_slice())
@@ -90,7 +92,8 @@ fn ascending(bounds: Bounds) -> Option<Kind>
 
 /// A histogram with the bounds at a key: 1 to 1,023 numbers, strictly ascending.
 pub fn histogram_at(alloc: Global, table: &Table, key: &str) -> Result<Option<Kind>, AllocError>
-    ensures kind { IfOk result (λ kind. kind ≡ option_map PlainKind.Histogram (option_and_then bounds_of (value_of key.now table.now))) }
+    ensures kind { IfOk result
+        (λ kind. kind ≡ option_map PlainKind.Histogram (option_and_then bounds_of (value_of key.now table.now))) }
     ensures ranges { IfOk result (λ kind. IfSome kind IsKind) }
 {
     let Some(values) = array_at(table, key) else {
@@ -100,6 +103,19 @@ pub fn histogram_at(alloc: Global, table: &Table, key: &str) -> Result<Option<Ki
         None => Ok(None),
         Some(bounds) => Ok(ascending(Bounds::new(bounds))),
     }
+}
+
+/// How many bits each of so many numbers of a vector has, at a key: 1 to `MOST_NUMBER_BITS`, and all together no more
+/// than `MOST_INPUT`.
+pub fn bits_at(table: &Table, key: &str, len: u16) -> Option<u8>
+    ensures bits { result ≡ option_and_then (bits_of len) (value_of key.now table.now) }
+    ensures within { IfSome result (λ bits. (1 ≤ bits) × (bits ≤ MOST_NUMBER_BITS) × (len * bits ≤ MOST_INPUT)) }
+{
+    let bits = number(value_at(table, key)?, 1, u64::from(MOST_NUMBER_BITS))?;
+    if u64::from(len) * bits > u64::from(MOST_INPUT) {
+        return None;
+    }
+    Some(bits as u8)
 }
 
 /// Hex digits of either case at a key, as many as N bytes have.

@@ -17,7 +17,7 @@ helper = "303132333435363738393a3b3c3d3e3f404142434445464748494a4b4c4d4e4f"
 "#;
 
 /// Parts of the example, what stands in their place, and the refusal.
-const REFUSED: [(&str, &str, &str); 44] = [
+const REFUSED: [(&str, &str, &str); 55] = [
     ("[[task]]", "[task]", "task 0 field file"),
     ("[[task]]", "[[tasks]]", "task 0 field file"),
     ("[[task]]", "alpha = 1\n[[task]]", "task 0 field file"),
@@ -60,6 +60,53 @@ const REFUSED: [(&str, &str, &str); 44] = [
         "\"count\"",
         "\"histogram\"\nbounds = [-1]",
         "task 1 field bounds",
+    ),
+    ("\"count\"", "\"vector\"\nbits = 0", "task 1 field len"),
+    (
+        "\"count\"",
+        "\"vector\"\nlen = 0\nbits = 1",
+        "task 1 field len",
+    ),
+    (
+        "\"count\"",
+        "\"vector\"\nlen = 1025\nbits = 0",
+        "task 1 field len",
+    ),
+    ("\"count\"", "\"vector\"\nlen = 1", "task 1 field bits"),
+    (
+        "\"count\"",
+        "\"vector\"\nlen = 1\nbits = 0",
+        "task 1 field bits",
+    ),
+    (
+        "\"count\"",
+        "\"vector\"\nlen = 1\nbits = 33",
+        "task 1 field bits",
+    ),
+    (
+        "\"count\"",
+        "\"vector\"\nlen = 1024\nbits = 2",
+        "task 1 field bits",
+    ),
+    (
+        "\"count\"",
+        "\"vector\"\nlen = 64\nbits = 32",
+        "task 1 field bits",
+    ),
+    (
+        "\"count\"\nmin = 3",
+        "\"vector\"\nlen = 1\nbits = 1\nmin = 0",
+        "task 1 field min",
+    ),
+    (
+        "\"count\"",
+        "\"vector\"\nlen = 1\nbits = 1\nbounds = [1]",
+        "task 1 field bounds",
+    ),
+    (
+        "\"count\"",
+        "\"sum\"\nbits = 1\nlen = 1",
+        "task 1 field len",
     ),
     ("min = 3\n", "", "task 1 field min"),
     ("min = 3", "min = \"3\"", "task 1 field min"),
@@ -203,6 +250,18 @@ fn a_task_says_when_it_expires(rt: HostRuntime) -> Result<(), Fail> {
 }
 
 #[test]
+fn a_vector_has_its_sizes(rt: HostRuntime) -> Result<(), Fail> {
+    let alloc = rt.alloc();
+    let text = EXAMPLE.replace(alloc, "\"count\"", "\"vector\"\nlen = 63\nbits = 32")?;
+    let tasks = read_tasks(alloc, text.as_bytes())?;
+    let [task] = tasks.as_slice() else {
+        return Err(Fail::from("one task"));
+    };
+    assert!(rt; task.kind == Kind::Vector { len: 63, bits: 32 });
+    Ok(())
+}
+
+#[test]
 fn the_first_refusal_is_named(rt: HostRuntime) -> Result<(), Fail> {
     let alloc = rt.alloc();
     for (old, new, want) in &REFUSED {
@@ -218,6 +277,10 @@ fn ends_of_ranges_are_read(rt: HostRuntime) -> Result<(), Fail> {
     for (old, new) in [
         ("\"count\"", "\"sum\"\nbits = 1"),
         ("\"count\"", "\"sum\"\nbits = 64"),
+        ("\"count\"", "\"vector\"\nlen = 1\nbits = 1"),
+        ("\"count\"", "\"vector\"\nlen = 1024\nbits = 1"),
+        ("\"count\"", "\"vector\"\nlen = 1023\nbits = 2"),
+        ("\"count\"", "\"vector\"\nlen = 63\nbits = 32"),
         ("\"count\"", "\"histogram\"\nbounds = [7]"),
         (
             "\"count\"",

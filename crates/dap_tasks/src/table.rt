@@ -8,18 +8,18 @@ ghost use Rattle.toml.specs.View.{table_view};
 ghost use Rattle.vdaf_api.specs.TaskNumbers.{IsExpiry};
 ghost use Rattle.vdaf_api.specs.Kind.{IsKind};
 ghost use Rattle.dap_tasks.specs.Fields.{is_other, first_other, number_of, optional_field};
-ghost use Rattle.dap_tasks.specs.File.{kind_of, kind_named, task_of};
+ghost use Rattle.dap_tasks.specs.File.{kind_of, kind_named, task_of, vector_of};
 ghost use Rattle.dap_tasks.specs.Reads.{Takes};
 ghost use Rattle.dap_tasks.specs.Task.{IsTask, has_name};
 
 use crate::fields::{
-    histogram_at, keys_at, new_name_at, number, number_at, octets_at, value_at, word_at,
+    bits_at, histogram_at, keys_at, new_name_at, number, number_at, octets_at, value_at, word_at,
 };
 use crate::task::Task;
 use dap_bytes::{GREATEST_MINIMUM, GREATEST_PRECISION, LATEST_TIME};
 use std::alloc::{AllocError, Global};
 use toml::Table;
-use vdaf_api::Kind;
+use vdaf_api::{Kind, MOST_NUMBERS};
 
 /// Why a table is no task.
 #[derive(Clone, Copy, Debug, PartialEq, Eq)]
@@ -40,6 +40,17 @@ impl<'a> From<AllocError> for TableFault<'a> {
     }
 }
 
+/// A vector with the sizes that the table has for it.
+fn vector<'a>(table: &'a Table) -> Result<Kind, TableFault<'a>>
+    ensures kind { Takes result (vector_of (table_view table.now)) }
+    ensures ranges { IfOk result IsKind }
+{
+    let len = number_at(table, "len", u32::from(MOST_NUMBERS)).ok_or(TableFault::Refused("len"))?;
+    let len = len as u16;
+    let bits = bits_at(table, "bits", len).ok_or(TableFault::Refused("bits"))?;
+    Ok(Kind::Vector { len, bits })
+}
+
 /// The kind that a word names, with what the table has for it.
 fn kind_named<'a>(alloc: Global, word: &str, table: &'a Table) -> Result<Kind, TableFault<'a>>
     ensures kind { Takes result (kind_named word.now (table_view table.now)) }
@@ -52,6 +63,7 @@ fn kind_named<'a>(alloc: Global, word: &str, table: &'a Table) -> Result<Kind, T
             Ok(Kind::Sum { bits: bits as u8 })
         }
         "histogram" => histogram_at(alloc, table, "bounds")?.ok_or(TableFault::Refused("bounds")),
+        "vector" => vector(table),
         _ => Err(TableFault::Refused("kind")),
     }
 }
@@ -71,8 +83,9 @@ fn is_other(kind: &Kind, key: &str) -> bool
 {
     match key {
         "name" | "kind" | "min" | "precision" | "expires" | "verify" | "leader" | "helper" => false,
-        "bits" => !matches!(kind, Kind::Sum { .. }),
+        "bits" => !matches!(kind, Kind::Sum { .. } | Kind::Vector { .. }),
         "bounds" => !matches!(kind, Kind::Histogram { .. }),
+        "len" => !matches!(kind, Kind::Vector { .. }),
         _ => true,
     }
 }

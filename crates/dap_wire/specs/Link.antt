@@ -4,6 +4,7 @@ use Rattle.std.specs.Coded.{Coded, code_by, coded×, coded_ℕ, coded_list}
 use mathlib.Core.List.{IsPrefix}
 use Rattle.dap_bytes.specs.Causes.{RoseBy}
 use Rattle.dap_wire.specs.Ring.{Ring, ring_code}
+use Rattle.dap_wire.specs.declared.places.TheConstants.{LINK_PLACES}
 
 -- an end as callers see it: `sent` and `received` are whole histories, `room` and `waiting` what it knows of its rings,
 -- `held` what its fates hold back, `drops` how often it was told Drop in a row, `made` its fates when the link was made
@@ -55,7 +56,7 @@ module _ {T : Type 0} where
 
   -- what every end keeps: 64 places to send into, a count that its fates' counts reach, and held messages that were carried
   pub record IsEnd (drops row : T → ℕ) (carried : T → Option (List (List ℕ))) (capacity : ℕ) (made fates : T) (count : ℕ) (received held : List (List ℕ)) : Type 0 where
-    pub places : capacity ≡ 64
+    pub places : capacity ≡ LINK_PLACES
     pub rose : RoseBy count (drops made) (drops fates)
     pub in_row : count ≤ row fates
     pub grew : Grew (carried made) (carried fates)
@@ -69,7 +70,7 @@ module _ {T : Type 0} where
   -- an end of a link that was just made, with these fates
   pub record IsNew (given : T) (e : Link T) : Type 0 where
     pub sent : e.sent ≡ []
-    pub room : e.room ≡ 64
+    pub room : e.room ≡ LINK_PLACES
     pub received : e.received ≡ []
     pub waiting : e.waiting ≡ []
     pub held : e.held ≡ []

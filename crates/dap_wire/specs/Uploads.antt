@@ -3,6 +3,7 @@ use Rattle.std.specs.Prelude.{◌≡◌, ◌≤◌, ℕ, ◌+◌, List, ◌++◌
 use mathlib.Core.List.{IsPrefix}
 use Rattle.dap_wire.specs.Ring.{Ring}
 use Rattle.dap_wire.specs.declared.upload.Upload.{Upload}
+use Rattle.dap_wire.specs.declared.places.TheConstants.{UPLOAD_PLACES}
 
 -- a front's end: what it has put, and how many places it knows to be free
 pub record Putting : Type 0 where
@@ -31,5 +32,5 @@ pub record LooksIn (old new : Taking) : Type 0 where
 -- the ring as read at either end is what was put and not taken, of at most 1,024 places
 pub record UploadsMet (front : Putting) (lane : Taking) : Type 0 where
   pub all : lane.received ++ lane.waiting ≡ front.sent
-  pub places : length lane.waiting ≤ 1024
-  pub room : 1024 ≤ front.room + length lane.waiting
+  pub places : length lane.waiting ≤ UPLOAD_PLACES
+  pub room : UPLOAD_PLACES ≤ front.room + length lane.waiting

@@ -10,6 +10,7 @@ ghost use Rattle.dap_wire.specs.Calls.{Sends, Receives, Outcome};
 ghost use Rattle.dap_wire.specs.declared.recv.Recv.TheVariants.{Message};
 
 use crate::fated::{hold_back, pop_fated, release};
+use crate::places::LINK_PLACES;
 use crate::recv::{Full, Recv};
 use crate::start::Start;
 use dap_bytes::Bytes;
@@ -52,7 +53,8 @@ impl<T: Fates> Model for LinkEnd<T> {
       made = a.made.value;
     } };
 
-    ghost invariant = { λ a. IsEnd T.drops T.in_row T.carried (producer_capacity a.out) a.made.value a.fates a.drops (received a.ring) a.held.items };
+    ghost invariant = { λ a. IsEnd T.drops T.in_row T.carried (producer_capacity a.out) a.made.value a.fates a.drops
+        (received a.ring) a.held.items };
 }
 
 impl<T: Fates> LinkEnd<T> {
@@ -61,7 +63,8 @@ impl<T: Fates> LinkEnd<T> {
         ensures end { Sends self.old self.new }
         ensures ok { OnOk result (self.new.sent ≡ self.old.sent ++ message.items ∷ []) }
         ensures room { OnOk result (self.old.room ≤ self.new.room + 1) }
-        ensures full { IfErr result (λ e. (e.0 ≡ message.items) × (self.new.sent ≡ self.old.sent) × (self.new.room ≡ 0)) }
+        ensures full { IfErr result
+            (λ e. (e.0 ≡ message.items) × (self.new.sent ≡ self.old.sent) × (self.new.room ≡ 0)) }
         ensures succeeds { 0 < self.old.room → IsOk result }
         ensures sent { (self.new.sent ≡ self.old.sent ++ message.items ∷ []) ⊎ (self.new.sent ≡ self.old.sent) }
     {
@@ -119,10 +122,7 @@ impl<T: Fates> LinkEnd<T> {
     }
 }
 
-/// The places of each ring of a link.
-const PLACES: usize = 64;
-
-/// The leader's and the helper's end of a new link, with 64 places each way. What the leader sends
+/// The leader's and the helper's end of a new link, with `LINK_PLACES` places each way. What the leader sends
 /// meets the fates `there`, and what the helper sends `back`. Want of memory gives these back.
 pub fn link<T: Fates>(alloc: Global, there: T, back: T) -> Result<(LinkEnd<T>, LinkEnd<T>), (T, T)>
     ensures link { IfOk result (λ ends. IsLink ends.0 ends.1) }
@@ -130,10 +130,10 @@ pub fn link<T: Fates>(alloc: Global, there: T, back: T) -> Result<(LinkEnd<T>, L
     ensures helper { IfOk result (λ ends. IsNew there ends.1) }
     ensures err { IfErr result (λ fates. (fates.0 ≡ there) × (fates.1 ≡ back)) }
 {
-    let Ok((leader_out, helper_in)) = RingBuffer::new(alloc, PLACES) else {
+    let Ok((leader_out, helper_in)) = RingBuffer::new(alloc, LINK_PLACES) else {
         return Err((there, back));
     };
-    let Ok((helper_out, leader_in)) = RingBuffer::new(alloc, PLACES) else {
+    let Ok((helper_out, leader_in)) = RingBuffer::new(alloc, LINK_PLACES) else {
         return Err((there, back));
     };
     let leader = new_end(alloc, leader_out, leader_in, back);
@@ -148,8 +148,8 @@ fn new_end<T: Fates>(
     ring: Consumer<Bytes>,
     fates: T,
 ) -> LinkEnd<T>
-    requires places { producer_capacity out ≡ 64 }
-    requires out { (sent out ≡ []) × (known_free out ≡ 64) }
+    requires places { producer_capacity out ≡ LINK_PLACES }
+    requires out { (sent out ≡ []) × (known_free out ≡ LINK_PLACES) }
     requires ring { (received ring ≡ []) × (known_items ring ≡ []) }
     ensures new { IsNew fates result }
     ensures rings { (result.out ≡ out_ring out) × (result.into ≡ in_ring ring) }

@@ -21,10 +21,12 @@ pub(crate) fn pop_fated<T: Fates>(
 ) -> Result<(Fate, Bytes), AllocError>
     requires { 0 < length (known_items ring.old) }
     ensures ring { in_ring ring.new ≡ in_ring ring.old }
-    ensures taken { IfOk result (λ r. (received ring.new ≡ received ring.old ++ r.1 ∷ []) × (known_items ring.old ≡ r.1 ∷ known_items ring.new)) }
+    ensures taken { IfOk result (λ r. (received ring.new ≡ received ring.old ++ r.1 ∷ [])
+        × (known_items ring.old ≡ r.1 ∷ known_items ring.new)) }
     ensures fated { IfOk result (λ r. IsFated T.gives T.drops T.in_row T.carried fates.old fates.new r.0 r.1) }
     ensures later { T.drops fates.old ≤ T.drops fates.new }
-    ensures err { OnErr result ((received ring.new ≡ received ring.old) × (known_items ring.new ≡ known_items ring.old) × (fates.new ≡ fates.old)) }
+    ensures err { OnErr result ((received ring.new ≡ received ring.old) × (known_items ring.new ≡ known_items ring.old)
+        × (fates.new ≡ fates.old)) }
 {
     let message = ring.peek_known();
     let fate = fates.fate(message.as_slice())?;

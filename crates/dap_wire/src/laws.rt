@@ -19,5 +19,6 @@ pub fn ends_stay_linked<T: Fates>()
 pub fn received_is_the_beginning_of_sent<T: Fates>()
     ensures there { (a b : Link T) → HaveMet a b → IsPrefix b.received a.sent }
     ensures back { (a b : Link T) → HaveMet a b → IsPrefix a.received b.sent }
-    ensures all { (a b now : Link T) → HaveMet a b → IsPrefix (known b) (known now) → now.waiting ≡ [] → IsPrefix a.sent now.received }
+    ensures all { (a b now : Link T) → HaveMet a b → IsPrefix (known b) (known now) → now.waiting ≡ [] →
+        IsPrefix a.sent now.received }
 {}

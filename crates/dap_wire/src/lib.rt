@@ -8,6 +8,7 @@ mod end;
 mod fated;
 mod laws;
 mod meet;
+mod places;
 mod recv;
 mod sends;
 mod start;
@@ -16,6 +17,7 @@ mod upload;
 pub use end::{LinkEnd, link};
 pub use laws::{ends_stay_linked, received_is_the_beginning_of_sent};
 pub use meet::Meet;
+pub use places::{LINK_PLACES, UPLOAD_PLACES};
 pub use recv::{Full, Recv};
 pub use upload::{FrontEnd, FullUpload, LaneEnd, Upload, plain};
 

@@ -3,6 +3,7 @@
 ghost use Rattle.std.specs.Prelude.{◌≡◌, ◌<◌, ◌≤◌, ◌+◌, ◌⊎◌, [], ◌∷◌, ◌++◌, IfOk, IfErr, IfSome, IfNone, IsOk, OnOk};
 ghost use mathlib.Core.List.{IsPrefix};
 
+use crate::places::UPLOAD_PLACES;
 use dap_bytes::Bytes;
 use rtrb::{Consumer, Producer, PushError, RingBuffer};
 use std::alloc::{AllocError, Global};
@@ -34,6 +35,7 @@ impl Model for FrontEnd {
     ghost use Rattle.rtrb.specs.Ring.{sent, known_free, producer_capacity};
     ghost use Rattle.dap_wire.specs.Ring.{out_ring};
     ghost use Rattle.dap_wire.specs.Uploads.{Putting};
+    ghost use Rattle.dap_wire.specs.declared.places.TheConstants.{UPLOAD_PLACES};
 
     ghost Value = { Putting };
 
@@ -43,7 +45,7 @@ impl Model for FrontEnd {
       room = known_free a.out;
     } };
 
-    ghost invariant = { λ a. producer_capacity a.out ≡ 1024 };
+    ghost invariant = { λ a. producer_capacity a.out ≡ UPLOAD_PLACES };
 }
 
 /// A lane's end of a ring of uploads, which takes.
@@ -66,16 +68,13 @@ impl Model for LaneEnd {
     } };
 }
 
-/// The places of a ring of uploads.
-const PLACES: usize = 1024;
-
-/// A new ring of uploads, with 1,024 places and without fates.
+/// A new ring of uploads, with `UPLOAD_PLACES` places and without fates.
 pub fn plain(alloc: Global) -> Result<(FrontEnd, LaneEnd), AllocError>
     ensures ring { IfOk result (λ ends. ends.1.into ≡ ends.0.out) }
-    ensures front { IfOk result (λ ends. (ends.0.sent ≡ []) × (ends.0.room ≡ 1024)) }
+    ensures front { IfOk result (λ ends. (ends.0.sent ≡ []) × (ends.0.room ≡ UPLOAD_PLACES)) }
     ensures lane { IfOk result (λ ends. (ends.1.received ≡ []) × (ends.1.waiting ≡ [])) }
 {
-    let (out, ring) = RingBuffer::new(alloc, PLACES)?;
+    let (out, ring) = RingBuffer::new(alloc, UPLOAD_PLACES)?;
     Ok((FrontEnd { out }, LaneEnd { ring }))
 }
 
@@ -102,8 +101,10 @@ impl LaneEnd {
     /// Takes the oldest upload. None where the ring as read in this call is empty. It takes no memory.
     pub fn next(&mut self) -> Option<Upload>
         ensures ring { self.new.into ≡ self.old.into }
-        ensures some { IfSome result (λ upload. (self.new.received ≡ self.old.received ++ upload ∷ []) × IsPrefix self.old.waiting (upload ∷ self.new.waiting)) }
-        ensures none { IfNone result ((self.new.received ≡ self.old.received) × (self.old.waiting ≡ []) × (self.new.waiting ≡ [])) }
+        ensures some { IfSome result (λ upload. (self.new.received ≡ self.old.received ++ upload ∷ [])
+            × IsPrefix self.old.waiting (upload ∷ self.new.waiting)) }
+        ensures none { IfNone result
+            ((self.new.received ≡ self.old.received) × (self.old.waiting ≡ []) × (self.new.waiting ≡ [])) }
     {
         self.ring.pop().ok()
     }

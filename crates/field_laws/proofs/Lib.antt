@@ -17,3 +17,5 @@ pub mod Proth
 pub mod Generated
 pub mod Divisors
 pub mod RootCount
+pub mod OrderLaws
+pub mod WholeSumLaws

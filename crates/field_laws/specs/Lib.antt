@@ -7,3 +7,4 @@ pub mod Polynomial
 pub mod Interpolation
 pub mod Primes
 pub mod Points
+pub mod WholeSums

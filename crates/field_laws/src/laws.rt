@@ -29,13 +29,15 @@ pub fn elements_are_their_numbers<F: Field>()
 /// A law: `root(log)` has order 2^log and no less, and halfway there it is minus one.
 pub fn roots_have_their_order<F: Field>()
     ensures has_its_order { (log : ℕ) → log ≤ 16 → HasOrder F.ring (F.root_of log) (2 ^ log) }
-    ensures is_minus_one_halfway { (log : ℕ) → log < 16 → power F.ring (F.root_of (log + 1)) (2 ^ log) ≡ F.ring.neg F.ring.unit }
+    ensures is_minus_one_halfway { (log : ℕ) → log < 16
+        → power F.ring (F.root_of (log + 1)) (2 ^ log) ≡ F.ring.neg F.ring.unit }
 {}
 
 /// A law: the first 2^log powers of `root(log)` are different. They are roots of X^(2^log) - 1, so that `roots_are_few`
 /// allows no fewer.
 pub fn roots_of_one_are_different<F: Field>()
-    ensures { (log : ℕ) → log ≤ 16 → AreDifferent F.ring (map (power F.ring (F.root_of log)) (range_with_len 0 (2 ^ log))) }
+    ensures { (log : ℕ) → log ≤ 16
+        → AreDifferent F.ring (map (power F.ring (F.root_of log)) (range_with_len 0 (2 ^ log))) }
 {}
 
 /// A law: `half` added to itself is one, and its number is (p + 1) / 2.

@@ -78,8 +78,8 @@ module _ {F : Type 0} {ring : Ring F} (laws : RingLaws ring) (whole : NoDivisors
   count_refuses (a ∷ (b ∷ x)) joint size valid = absurd (omega arith)
   count_refuses (a ∷ []) joint size valid =
       elim (square_same a (ap (λ g. minus ring g a) (product_gadget laws a a) ∙ valid)) [
-        | inl h ↦ (0, ap (λ b. Some (b ∷ [])) (sym h))
-        | inr h ↦ (1, ap (λ b. Some (b ∷ [])) (sym h))
+        | inl h ↦ (0 ∷ [], ap (λ b. Some (b ∷ [])) (sym h))
+        | inr h ↦ (1 ∷ [], ap (λ b. Some (b ∷ [])) (sym h))
       ]
 
   -- the result of a call on one entry
@@ -173,7 +173,7 @@ module _ {F : Type 0} {ring : Ring F} (laws : RingLaws ring) (whole : NoDivisors
       let found = bits_number x (λ i small. sum_bits n x rs many stays i (omega arith)) in
       let m : ℕ = found.0 in
       let below : m < 2 ^ n = omega (arith, found.1.0, ap (λ k. 2 ^ k) size) in (
-        m,
+        m ∷ [],
         ap (λ b. cond b (Some (binary ring n m)) None) (lt-ltb m (2 ^ n) below)
             ∙ ap Some (sym (fill_by_all (λ i. bit ring (nat_eq (m / 2 ^ i % 2) 1)) x n ring.nought size (λ j small. found.1.1 j (omega arith)))),
       )
@@ -250,4 +250,4 @@ module _ {F : Type 0} {ring : Ring F} {p : ℕ} {number : F → ℕ} {residue : 
       let found = histogram_bits laws whole bounds x rs ss many stays in
       let hot = one_place (length bounds + 1) x (omega arith) size found.0 found.1 in
       let number = bucket_reached bounds up hot.0 hot.1.0 in
-      (number.0, ap (λ place. Some (one_hot ring (length bounds + 1) place)) number.1 ∙ ap Some (sym hot.1.1))
+      (number.0 ∷ [], ap (λ place. Some (one_hot ring (length bounds + 1) place)) number.1 ∙ ap Some (sym hot.1.1))

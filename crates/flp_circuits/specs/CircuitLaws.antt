@@ -1,6 +1,7 @@
 -- Lemmas: the circuits of the three kinds keep the laws.
-use Rattle.std.proofs.Common.{◌≡◌, ℕ, ◌+◌, ◌-◌, ◌/◌, ◌%◌, ◌^◌, ◌≤◌, ◌⊎◌, Bool, true, false, Some, None, List, [], ◌∷◌, subst, sym, ap, ◌∙◌, refl, arith, get_or, length, lit≤}
+use Rattle.std.proofs.Common.{◌≡◌, ℕ, ◌+◌, ◌-◌, ◌/◌, ◌%◌, ◌^◌, ◌≤◌, ◌⊎◌, Bool, true, false, Option, Some, None, List, [], ◌∷◌, subst, sym, ap, ◌∙◌, refl, arith, get_or, length, lit≤}
 use Rattle.std.specs.Prelude.{if◌then◌else◌, nat_eq, nat_lt}
+use Rattle.std.specs.Option.{option_and_then}
 use Rattle.std.proofs.lemmas.List.FromFn.{length-map-range_with_len, get_or-map-range_with_len}
 use Rattle.field_laws.specs.Ring.{Ring, RingLaws, minus}
 use Rattle.field_laws.proofs.Solve.{at, plus, times, solve}
@@ -9,13 +10,19 @@ use Rattle.field_laws.specs.Polynomial.{add_polynomials, scale}
 use Rattle.field_laws.proofs.Polynomials.{get_or-add, get_or-scale}
 use Rattle.flp_circuits.specs.declared.histogram.TheConstants.{MOST_BOUNDS}
 use Rattle.flp_circuits.specs.Shape.{ShapeLaws, EncodeLaws, IsValid}
-use Rattle.flp_circuits.specs.Kinds.{bucket, bit, binary, one_hot, total, weighed, count_shape, sum_shape, histogram_shape}
+use Rattle.flp_circuits.specs.Kinds.{only, bucket, bit, binary, one_hot, total, weighed, count_encoding, count_shape, sum_encoding, sum_shape, histogram_encoding, histogram_shape}
 use Rattle.flp_circuits.specs.LinearityLaws.{one_entry, weighted-add, weighted-scale, total-add, total-scale}
 use Rattle.flp_circuits.specs.EncodingLaws.{bucket-within, bit_is, bit_valid, bits_valid, one_hot_valid}
 
 some_then : {A : Type 0} (b : Bool) (x y : A) → (if b then Some x else None) ≡ Some y → x ≡ y
 some_then true x y e = cc
 some_then false x y e = absurd (cc)
+
+-- what comes of a list of one comes of its number
+pub only-then : {A : Type 0} (f : ℕ → Option A) (ms : List ℕ) (a : A) → option_and_then f (only ms) ≡ Some a → (m : ℕ) × (f m ≡ Some a)
+only-then f [] a e = absurd (cc)
+only-then f (m ∷ []) a e = (m, e)
+only-then f (m ∷ (n ∷ ms)) a e = absurd (cc)
 
 some_is : {A : Type 0} (x y : A) → Some x ≡ Some y → x ≡ y
 some_is x y e = cc
@@ -84,8 +91,10 @@ module _ {F : Type 0} {ring : Ring F} (laws : RingLaws ring) where
   count_encodes = record {
     some_out = lit≤ tt;
     few_out = lit≤ tt;
-    length-encode = λ m x e. ap length (sym (some_then (nat_lt m 2) (bit ring (nat_eq m 1) ∷ []) x e));
-    encode-valid = λ m x joint e hj. subst (λ y. IsValid ring (count_shape ring) y joint) (some_then (nat_lt m 2) (bit ring (nat_eq m 1) ∷ []) x e) (bit_valid laws (bit ring (nat_eq m 1)) joint (bit_is laws (nat_eq m 1)));
+    length-encode = λ ms x e. let one = only-then (count_encoding ring) ms x e in ap length (sym (some_then (nat_lt one.0 2) (bit ring (nat_eq one.0 1) ∷ []) x one.1));
+    encode-valid = λ ms x joint e hj.
+        let one = only-then (count_encoding ring) ms x e in
+        subst (λ y. IsValid ring (count_shape ring) y joint) (some_then (nat_lt one.0 2) (bit ring (nat_eq one.0 1) ∷ []) x one.1) (bit_valid laws (bit ring (nat_eq one.0 1)) joint (bit_is laws (nat_eq one.0 1)));
     length-truncate = λ x hx. refl;
     truncate-add = λ x y hx hy. ap (λ a. a ∷ []) (get_or-add laws x y 0) ∙ sym (one_entry laws (get_or x 0 ring.nought) (get_or y 0 ring.nought));
   }
@@ -94,9 +103,14 @@ module _ {F : Type 0} {ring : Ring F} (laws : RingLaws ring) where
   sum_encodes bits = record {
     some_out = lit≤ tt;
     few_out = lit≤ tt;
-    length-encode = λ m x e. ap length (sym (some_then (nat_lt m (2 ^ bits)) (binary ring bits m) x e)) ∙ length-map-range_with_len (λ i. bit ring (nat_eq (m / 2 ^ i % 2) 1)) 0 bits;
-    encode-valid = λ m x joint e hj.
-        subst (λ y. IsValid ring (sum_shape ring bits) y joint) (some_then (nat_lt m (2 ^ bits)) (binary ring bits m) x e)
+    length-encode = λ ms x e.
+        let one = only-then (sum_encoding ring bits) ms x e in
+        let m : ℕ = one.0 in
+        ap length (sym (some_then (nat_lt m (2 ^ bits)) (binary ring bits m) x one.1)) ∙ length-map-range_with_len (λ i. bit ring (nat_eq (m / 2 ^ i % 2) 1)) 0 bits;
+    encode-valid = λ ms x joint e hj.
+        let one = only-then (sum_encoding ring bits) ms x e in
+        let m : ℕ = one.0 in
+        subst (λ y. IsValid ring (sum_shape ring bits) y joint) (some_then (nat_lt m (2 ^ bits)) (binary ring bits m) x one.1)
         (bits_valid laws bits (binary ring bits m) joint (λ i h. subst (λ a. (a ≡ ring.nought) ⊎ (a ≡ ring.unit)) (sym (get_or-map-range_with_len (λ i. bit ring (nat_eq (m / 2 ^ i % 2) 1)) 0 bits i i ring.nought h (omega arith))) (bit_is laws (nat_eq (m / 2 ^ i % 2) 1))));
     length-truncate = λ x hx. refl;
     truncate-add = λ x y hx hy. ap (λ a. a ∷ []) (weighted-add laws _ bits x y) ∙ sym (one_entry laws _ _);
@@ -106,8 +120,14 @@ module _ {F : Type 0} {ring : Ring F} (laws : RingLaws ring) where
   histogram_encodes bounds few = record {
     some_out = omega arith;
     few_out = omega arith;
-    length-encode = λ m x e. ap length (sym (some_is (one_hot ring (length bounds + 1) (bucket bounds m)) x e)) ∙ length-map-range_with_len (λ i. bit ring (nat_eq i (bucket bounds m))) 0 (length bounds + 1);
-    encode-valid = λ m x joint e hj. subst (λ y. IsValid ring (histogram_shape ring bounds) y joint) (some_is (one_hot ring (length bounds + 1) (bucket bounds m)) x e) (one_hot_valid laws bounds (bucket bounds m) joint (bucket-within bounds m));
+    length-encode = λ ms x e.
+        let one = only-then (histogram_encoding ring bounds) ms x e in
+        let m : ℕ = one.0 in
+        ap length (sym (some_is (one_hot ring (length bounds + 1) (bucket bounds m)) x one.1)) ∙ length-map-range_with_len (λ i. bit ring (nat_eq i (bucket bounds m))) 0 (length bounds + 1);
+    encode-valid = λ ms x joint e hj.
+        let one = only-then (histogram_encoding ring bounds) ms x e in
+        let m : ℕ = one.0 in
+        subst (λ y. IsValid ring (histogram_shape ring bounds) y joint) (some_is (one_hot ring (length bounds + 1) (bucket bounds m)) x one.1) (one_hot_valid laws bounds (bucket bounds m) joint (bucket-within bounds m));
     length-truncate = λ x hx. hx;
     truncate-add = λ x y hx hy. refl;
   }

@@ -1,6 +1,7 @@
 -- The circuits of the three kinds of measurement, over any ring.
-use Rattle.std.specs.Prelude.{ℕ, ◌+◌, ◌-◌, ◌/◌, ◌%◌, ◌^◌, List, [], ◌∷◌, map, length, Bool, Some, None, nat_eq, nat_lt, nat_le, if◌then◌else◌, slice_index_or, position, unwrap_or}
+use Rattle.std.specs.Prelude.{ℕ, ◌+◌, ◌-◌, ◌/◌, ◌%◌, ◌^◌, List, [], ◌∷◌, map, length, Bool, Option, Some, None, nat_eq, nat_lt, nat_le, if◌then◌else◌, slice_index_or, position, unwrap_or}
 use Rattle.std.specs.List.{range_with_len}
+use Rattle.std.specs.Option.{option_and_then}
 use Rattle.field_laws.specs.Ring.{Ring, power, minus}
 use Rattle.field_laws.specs.Sums.{sum_to}
 use Rattle.flp_circuits.specs.Shape.{Shape, Quadratic}
@@ -8,6 +9,12 @@ use Rattle.flp_circuits.specs.Shape.{Shape, Quadratic}
 -- the place of the first bound that m is not above; the number of bounds where it is above all
 abbrev pub bucket : List ℕ → ℕ → ℕ
 bucket bounds m = unwrap_or (position (λ bound. nat_le m bound) bounds) (length bounds)
+
+-- the number of a list of one; none for another list
+abbrev pub only : List ℕ → Option ℕ
+only [] = None
+only (m ∷ []) = Some m
+only (m ∷ (n ∷ ms)) = None
 
 module _ {F : Type 0} (ring : Ring F) where
   -- a b
@@ -46,10 +53,22 @@ module _ {F : Type 0} (ring : Ring F) where
   unfoldable pub total : ℕ → List F → F
   total n xs = sum_to ring n (λ i. slice_index_or xs i ring.nought)
 
+  -- the input of a count
+  abbrev pub count_encoding : ℕ → Option (List F)
+  count_encoding m = if nat_lt m 2 then Some (bit (nat_eq m 1) ∷ []) else None
+
+  -- the input of a number of so many bits
+  abbrev pub sum_encoding : ℕ → ℕ → Option (List F)
+  sum_encoding bits m = if nat_lt m (2 ^ bits) then Some (binary bits m) else None
+
+  -- the input of a number that falls into a bucket
+  abbrev pub histogram_encoding : List ℕ → ℕ → Option (List F)
+  histogram_encoding bounds m = Some (one_hot (length bounds + 1) (bucket bounds m))
+
   -- nought or one; the gadget multiplies the input with itself, which changes neither
   abbrev pub count_shape : Shape F
   count_shape = record {
-    encode = λ m. if nat_lt m 2 then Some (bit (nat_eq m 1) ∷ []) else None;
+    encode = λ ms. option_and_then count_encoding (only ms);
     truncate = λ x. slice_index_or x 0 ring.nought ∷ [];
     input_len = 1;
     out_len = 1;
@@ -64,7 +83,7 @@ module _ {F : Type 0} (ring : Ring F) where
   -- a number of so many bits; each call tests one bit
   abbrev pub sum_shape : ℕ → Shape F
   sum_shape bits = record {
-    encode = λ m. if nat_lt m (2 ^ bits) then Some (binary bits m) else None;
+    encode = λ ms. option_and_then (sum_encoding bits) (only ms);
     truncate = λ x. number_of bits x ∷ [];
     input_len = bits;
     out_len = 1;
@@ -79,7 +98,7 @@ module _ {F : Type 0} (ring : Ring F) where
   -- a bucket between bounds; each call tests one bit, and the bits have to sum to one
   abbrev pub histogram_shape : List ℕ → Shape F
   histogram_shape bounds = record {
-    encode = λ m. Some (one_hot (length bounds + 1) (bucket bounds m));
+    encode = λ ms. option_and_then (histogram_encoding bounds) (only ms);
     truncate = λ x. x;
     input_len = length bounds + 1;
     out_len = length bounds + 1;

@@ -17,6 +17,11 @@ module _ {F : Type 0} {ring : Ring F} (laws : RingLaws ring) where
   unfolding weighted
   weighted-same v w n xs same = sum_same laws n _ _ (λ i small. ap (λ a. ring.mul a (get_or xs i ring.nought)) (same i))
 
+  -- it sees the first n entries alone
+  pub weighted-entries : (w : ℕ → F) (n : ℕ) (xs ys : List F) → ((i : ℕ) → i < n → get_or xs i ring.nought ≡ get_or ys i ring.nought) → weighted ring w n xs ≡ weighted ring w n ys
+  unfolding weighted
+  weighted-entries w n xs ys same = sum_same laws n _ _ (λ i small. ap (ring.mul (w i)) (same i small))
+
   pub weighted-add : (w : ℕ → F) (n : ℕ) (xs ys : List F) → weighted ring w n (add_polynomials ring xs ys) ≡ ring.add (weighted ring w n xs) (weighted ring w n ys)
   unfolding weighted
   weighted-add w n xs ys =

@@ -23,8 +23,8 @@ quadratic_at ring q a b =
 
 -- a circuit, as numbers and functions; calls count from 1, wires and entries from 0
 pub record Shape (F : Type 0) : Type 0 where
-  -- the input of a measurement; none where it isn't one of the kind
-  pub encode : ℕ → Option (List F)
+  -- the input of a measurement, which is a list of numbers; none where it isn't one of the kind
+  pub encode : List ℕ → Option (List F)
   -- the out share of an input
   pub truncate : List F → List F
   pub input_len : ℕ
@@ -61,7 +61,7 @@ IsInvalid ring c x joint = c.validity ring.unit x joint (results ring c x) ≢ r
 
 -- some measurement's encoding it is
 abbrev pub IsEncoding : {F : Type 0} → Shape F → List F → Type 0
-IsEncoding c x = (m : ℕ) × (c.encode m ≡ Some x)
+IsEncoding c x = (ms : List ℕ) × (c.encode ms ≡ Some x)
 
 -- the sizes are within the limits, and wires and validity are linear
 pub record ShapeLaws {F : Type 0} (ring : Ring F) (c : Shape F) : Type 0 where
@@ -84,7 +84,7 @@ pub record ShapeLaws {F : Type 0} (ring : Ring F) (c : Shape F) : Type 0 where
 pub record EncodeLaws {F : Type 0} (ring : Ring F) (c : Shape F) : Type 0 where
   pub some_out : 1 ≤ c.out_len
   pub few_out : c.out_len ≤ 1024
-  pub length-encode : (m : ℕ) (x : List F) → c.encode m ≡ Some x → length x ≡ c.input_len
-  pub encode-valid : (m : ℕ) (x joint : List F) → c.encode m ≡ Some x → length joint ≡ c.joint_len → IsValid ring c x joint
+  pub length-encode : (ms : List ℕ) (x : List F) → c.encode ms ≡ Some x → length x ≡ c.input_len
+  pub encode-valid : (ms : List ℕ) (x joint : List F) → c.encode ms ≡ Some x → length joint ≡ c.joint_len → IsValid ring c x joint
   pub length-truncate : (x : List F) → length x ≡ c.input_len → length (c.truncate x) ≡ c.out_len
   pub truncate-add : (x y : List F) → length x ≡ c.input_len → length y ≡ c.input_len → c.truncate (add_polynomials ring x y) ≡ add_polynomials ring (c.truncate x) (c.truncate y)

@@ -1,6 +1,6 @@
 //! What a circuit is.
 
-ghost use Rattle.std.specs.Prelude.{◌≡◌, ◌≤◌, ◌<◌, ◌↔◌, length, IfOk};
+ghost use Rattle.std.specs.Prelude.{◌≡◌, ◌≤◌, ◌<◌, ◌↔◌, [], ◌∷◌, length, IfOk};
 ghost use Rattle.flp_circuits.specs.Shape.{Shape, ShapeLaws, EncodeLaws, gadget};
 
 use field_laws::Field;
@@ -22,7 +22,7 @@ pub enum EncodeFault {
 ///
 /// An input is a vector of `input_len` elements. Wire `wire` of call `call`, calls counting from 1 and wires from 0,
 /// carries `input`, and the gadget takes the `arity` wires of a call to its result. From all results `validity` makes
-/// the value that is zero where the input keeps the rules. Only `encode` and `truncate` take memory.
+/// the value that is zero where the input keeps the rules. Only `encode_list`, `encode` and `truncate` take memory.
 pub trait Circuit {
     /// The field of its elements.
     type F: Field;
@@ -30,10 +30,18 @@ pub trait Circuit {
     /// What it computes.
     ghost shape: { Self → Shape Self.F };
 
-    /// The input of the measurement `m`: `BadValue` exactly where it isn't one of the kind.
+    /// The input of a measurement, which is a list of numbers: `BadValue` exactly where it isn't one of the kind.
+    fn encode_list(&self, alloc: Global, m: &[u64]) -> Result<Vec<Self::F>, EncodeFault>
+        ensures value { IfOk result (λ x. (shape self.now).encode m.now ≡ Some x.items) }
+        ensures bad_value { (result ≡ Err EncodeFault.BadValue) ↔ ((shape self.now).encode m.now ≡ None) };
+
+    /// The input of a measurement of one number, likewise.
     fn encode(&self, alloc: Global, m: u64) -> Result<Vec<Self::F>, EncodeFault>
-        ensures value { IfOk result (λ x. (shape self.now).encode m ≡ Some x.items) }
-        ensures bad_value { (result ≡ Err EncodeFault.BadValue) ↔ ((shape self.now).encode m ≡ None) };
+        ensures value { IfOk result (λ x. (shape self.now).encode (m ∷ []) ≡ Some x.items) }
+        ensures bad_value { (result ≡ Err EncodeFault.BadValue) ↔ ((shape self.now).encode (m ∷ []) ≡ None) }
+    {
+        self.encode_list(alloc, &[m])
+    }
 
     /// The out share of an input or of a share of one: `out_len` elements, whose sums over reports are aggregated.
     fn truncate(&self, alloc: Global, x: &[Self::F]) -> Result<Vec<Self::F>, AllocError>

@@ -1,7 +1,7 @@
 //! The circuit of counts.
 
 use crate::circuit::{Circuit, EncodeFault};
-use crate::entries::bit_of;
+use crate::entries::{bit_of, only};
 use field_laws::Field;
 use std::alloc::{AllocError, Global};
 use std::marker::PhantomData;
@@ -23,6 +23,25 @@ impl<F> Count<F> {
     }
 }
 
+impl<E: Field> Count<E> {
+    ghost use Rattle.std.specs.Prelude.{◌≡◌, ◌↔◌, IfOk, Some, None};
+    ghost use Rattle.flp_circuits.specs.Kinds.{count_encoding};
+    ghost use Rattle.flp_circuits.specs.declared.circuit.EncodeFault.TheVariants.{BadValue};
+
+    /// The input of 0 or 1.
+    fn encode_number(&self, alloc: Global, m: u64) -> Result<Vec<E>, EncodeFault>
+        ensures value { IfOk result (λ x. count_encoding E.ring m ≡ Some x.items) }
+        ensures bad_value { (result ≡ Err BadValue) ↔ (count_encoding E.ring m ≡ None) }
+    {
+        if m >= 2 {
+            return Err(EncodeFault::BadValue);
+        }
+        let mut x = Vec::new(alloc);
+        x.push(bit_of(m == 1)).map_err(|_| EncodeFault::NoMemory)?;
+        Ok(x)
+    }
+}
+
 impl<E: Field> Circuit for Count<E> {
     ghost use Rattle.flp_circuits.specs.Kinds.{count_shape};
     ghost use Rattle.flp_circuits.specs.CircuitLaws.{count_keeps, count_encodes};
@@ -35,13 +54,11 @@ impl<E: Field> Circuit for Count<E> {
 
     ghost codes = { λ _. count_encodes E.laws };
 
-    fn encode(&self, alloc: Global, m: u64) -> Result<Vec<E>, EncodeFault> {
-        if m >= 2 {
-            return Err(EncodeFault::BadValue);
+    fn encode_list(&self, alloc: Global, m: &[u64]) -> Result<Vec<E>, EncodeFault> {
+        match only(m) {
+            Some(number) => self.encode_number(alloc, number),
+            None => Err(EncodeFault::BadValue),
         }
-        let mut x = Vec::new(alloc);
-        x.push(bit_of(m == 1)).map_err(|_| EncodeFault::NoMemory)?;
-        Ok(x)
     }
 
     fn truncate(&self, alloc: Global, x: &[E]) -> Result<Vec<E>, AllocError> {

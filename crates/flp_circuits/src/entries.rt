@@ -1,12 +1,19 @@
-//! Vectors of bits, and their weighted sums.
+//! Lists of one number, vectors of bits, and their weighted sums.
 
 ghost use Rattle.std.specs.Prelude.{◌≡◌, ℕ, ◌+◌, ◌≤◌, ◌^◌, ◌<◌, length, IfOk, nat_eq};
 ghost use Rattle.field_laws.specs.Ring.{power};
 ghost use Rattle.flp_circuits.specs.Shape.{quadratic_at};
-ghost use Rattle.flp_circuits.specs.Kinds.{bit, bit_form, binary, one_hot, weighted, total};
+ghost use Rattle.flp_circuits.specs.Kinds.{bit, bit_form, binary, one_hot, only, weighted, total};
 
 use field_laws::Field;
 use std::alloc::{AllocError, Global};
+
+/// The number of a list of one.
+pub fn only(m: &[u64]) -> Option<u64>
+    ensures { result ≡ only m.now }
+{
+    if m.len() == 1 { Some(m[0]) } else { None }
+}
 
 /// One for true, zero for false.
 pub fn bit_of<F: Field>(set: bool) -> F

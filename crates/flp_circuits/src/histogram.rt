@@ -5,7 +5,7 @@ ghost use Rattle.std.specs.List.Sorted.{IsStrictlyIncreasing};
 ghost use Rattle.flp_circuits.specs.declared.histogram.TheConstants.{MOST_BOUNDS};
 
 use crate::circuit::{Circuit, EncodeFault};
-use crate::entries::{bit_test, one_hot_at, sum_all, weigh};
+use crate::entries::{bit_test, one_hot_at, only, sum_all, weigh};
 use field_laws::Field;
 use std::alloc::{AllocError, Global};
 use std::marker::PhantomData;
@@ -56,6 +56,20 @@ impl<F> Histogram<F> {
     }
 }
 
+impl<E: Field> Histogram<E> {
+    ghost use Rattle.std.specs.Prelude.{◌↔◌, IfOk, Some, None};
+    ghost use Rattle.flp_circuits.specs.Kinds.{histogram_encoding};
+    ghost use Rattle.flp_circuits.specs.declared.circuit.EncodeFault.TheVariants.{BadValue};
+
+    /// One in the bucket of a number, and zero in the others.
+    fn encode_number(&self, alloc: Global, m: u64) -> Result<Vec<E>, EncodeFault>
+        ensures value { IfOk result (λ x. histogram_encoding E.ring self.now.bounds.items m ≡ Some x.items) }
+        ensures bad_value { (result ≡ Err BadValue) ↔ (histogram_encoding E.ring self.now.bounds.items m ≡ None) }
+    {
+        one_hot_at(alloc, self.bounds.len() + 1, self.bucket(m)).map_err(|_| EncodeFault::NoMemory)
+    }
+}
+
 impl<E: Field> Circuit for Histogram<E> {
     ghost use Rattle.flp_circuits.specs.Kinds.{histogram_shape};
     ghost use Rattle.flp_circuits.specs.CircuitLaws.{histogram_keeps, histogram_encodes};
@@ -68,8 +82,11 @@ impl<E: Field> Circuit for Histogram<E> {
 
     ghost codes = { λ c. histogram_encodes E.laws c.bounds.items c.few_bounds };
 
-    fn encode(&self, alloc: Global, m: u64) -> Result<Vec<E>, EncodeFault> {
-        one_hot_at(alloc, self.input_len(), self.bucket(m)).map_err(|_| EncodeFault::NoMemory)
+    fn encode_list(&self, alloc: Global, m: &[u64]) -> Result<Vec<E>, EncodeFault> {
+        match only(m) {
+            Some(number) => self.encode_number(alloc, number),
+            None => Err(EncodeFault::BadValue),
+        }
     }
 
     fn truncate(&self, alloc: Global, x: &[E]) -> Result<Vec<E>, AllocError> {

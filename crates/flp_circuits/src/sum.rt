@@ -3,7 +3,7 @@
 ghost use Rattle.std.specs.Prelude.{◌≡◌, ◌≤◌};
 
 use crate::circuit::{Circuit, EncodeFault};
-use crate::entries::{binary_digits, bit_test, weigh};
+use crate::entries::{binary_digits, bit_test, only, weigh};
 use field_laws::Field;
 use std::alloc::{AllocError, Global};
 use std::marker::PhantomData;
@@ -32,6 +32,23 @@ impl<F> Sum<F> {
     }
 }
 
+impl<E: Field> Sum<E> {
+    ghost use Rattle.std.specs.Prelude.{◌↔◌, IfOk, Some, None};
+    ghost use Rattle.flp_circuits.specs.Kinds.{sum_encoding};
+    ghost use Rattle.flp_circuits.specs.declared.circuit.EncodeFault.TheVariants.{BadValue};
+
+    /// The bits of a number.
+    fn encode_number(&self, alloc: Global, m: u64) -> Result<Vec<E>, EncodeFault>
+        ensures value { IfOk result (λ x. sum_encoding E.ring self.now.bits m ≡ Some x.items) }
+        ensures bad_value { (result ≡ Err BadValue) ↔ (sum_encoding E.ring self.now.bits m ≡ None) }
+    {
+        if u128::from(m) >= 1 << self.bits {
+            return Err(EncodeFault::BadValue);
+        }
+        binary_digits(alloc, self.bits, m).map_err(|_| EncodeFault::NoMemory)
+    }
+}
+
 impl<E: Field> Circuit for Sum<E> {
     ghost use Rattle.flp_circuits.specs.Kinds.{sum_shape};
     ghost use Rattle.flp_circuits.specs.CircuitLaws.{sum_keeps, sum_encodes};
@@ -45,11 +62,11 @@ impl<E: Field> Circuit for Sum<E> {
 
     ghost codes = { λ c. sum_encodes E.laws c.bits };
 
-    fn encode(&self, alloc: Global, m: u64) -> Result<Vec<E>, EncodeFault> {
-        if u128::from(m) >= 1 << self.bits {
-            return Err(EncodeFault::BadValue);
+    fn encode_list(&self, alloc: Global, m: &[u64]) -> Result<Vec<E>, EncodeFault> {
+        match only(m) {
+            Some(number) => self.encode_number(alloc, number),
+            None => Err(EncodeFault::BadValue),
         }
-        binary_digits(alloc, self.bits, m).map_err(|_| EncodeFault::NoMemory)
     }
 
     fn truncate(&self, alloc: Global, x: &[E]) -> Result<Vec<E>, AllocError> {

@@ -7,7 +7,7 @@ use Rattle.flp_circuits.specs.Kinds.{bit_form}
 -- each call tests one bit, and the first result is the validity value; no measurement has an encoding
 abbrev pub wide_shape : {F : Type 0} → Ring F → ℕ → Shape F
 wide_shape ring calls = record {
-  encode = λ m. None;
+  encode = λ ms. None;
   truncate = λ x. slice_index_or x 0 ring.nought ∷ [];
   input_len = calls;
   out_len = 1;

@@ -26,8 +26,8 @@ module _ {F : Type 0} {ring : Ring F} (laws : RingLaws ring) where
   wide_encodes calls = record {
     some_out = lit≤ tt;
     few_out = lit≤ tt;
-    length-encode = λ m x none. absurd (cc);
-    encode-valid = λ m x joint none hj. absurd (cc);
+    length-encode = λ ms x none. absurd (cc);
+    encode-valid = λ ms x joint none hj. absurd (cc);
     length-truncate = λ x hx. refl;
     truncate-add = λ x y hx hy. ap (λ a. a ∷ []) (get_or-add laws x y 0) ∙ sym (one_entry laws (get_or x 0 ring.nought) (get_or y 0 ring.nought));
   }

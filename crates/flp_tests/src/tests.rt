@@ -3,3 +3,4 @@ mod elements;
 mod polynomials;
 mod proofs;
 mod transforms;
+mod vectors;

@@ -40,7 +40,7 @@ impl<E: Field> Circuit for Wide<E> {
 
     ghost codes = { λ c. wide_encodes E.laws c.calls };
 
-    fn encode(&self, _alloc: Global, _m: u64) -> Result<Vec<E>, EncodeFault> {
+    fn encode_list(&self, _alloc: Global, _m: &[u64]) -> Result<Vec<E>, EncodeFault> {
         Err(EncodeFault::BadValue)
     }
 

@@ -1,7 +1,6 @@
 -- Lists of jobs whose numbers are distinct.
 use Rattle.std.proofs.Common.{◌≡◌, ℕ, zero, suc, ◌<◌, List, [], ◌∷◌, ◌++◌, length, get_or, map, Bool, true, false, cond, Some, None, sym, ◌∙◌, subst, refl, arith}
-use Rattle.std.specs.Prelude.{nat_eq, ◌&&◌, filter}
-use Rattle.std.proofs.lemmas.Bool.Decides.{nat_tests}
+use Rattle.std.specs.Prelude.{filter}
 use Rattle.dap_messages.specs.declared.job.JobNo.{JobNo}
 use Rattle.dap_messages.specs.Jobs.{is_same_job}
 use Rattle.dap_messages.specs.JobLaws.{same_job-Decides}

@@ -67,3 +67,18 @@ leased job lease jobs = changed job (λ j. record { job = j.job; stage = j.stage
 abbrev pub moved : JobNo → Option Stage → List OpenJob → List OpenJob
 moved job (Some stage) jobs = changed job (λ _. record { job = job; stage = stage; lease = None }) jobs
 moved job None jobs = filter (λ j. not (is_job job j)) jobs
+
+-- a job at this stage is past its Continue
+abbrev pub is_continued : Stage → Bool
+is_continued AwaitInit = false
+is_continued Combine = false
+is_continued AwaitCont = true
+is_continued Finish = true
+
+-- the job waits for the helper's answer to its ContReq, without a lease
+abbrev pub waits_again : OpenJob → OpenJob
+waits_again j = record { job = j.job; stage = AwaitCont; lease = None }
+
+-- the jobs past their Continue, each of which waits again
+abbrev pub continued : List OpenJob → List OpenJob
+continued jobs = map waits_again (filter (λ j. is_continued j.stage) jobs)

@@ -37,7 +37,7 @@ pub struct OpenJob {
 
 impl Stage {
     ghost use Rattle.std.specs.Prelude.{◌≡◌};
-    ghost use Rattle.job_leases.specs.Jobs.{waits_for_worker};
+    ghost use Rattle.job_leases.specs.Jobs.{is_continued, waits_for_worker};
 
     /// Whether a job at this stage waits for a worker.
     pub fn waits_for_worker(self) -> bool
@@ -46,6 +46,16 @@ impl Stage {
         match self {
             Stage::AwaitInit | Stage::AwaitCont => false,
             Stage::Combine | Stage::Finish => true,
+        }
+    }
+
+    /// Whether a job at this stage is past its Continue.
+    pub fn is_continued(self) -> bool
+        ensures { result ≡ is_continued self }
+    {
+        match self {
+            Stage::AwaitInit | Stage::Combine => false,
+            Stage::AwaitCont | Stage::Finish => true,
         }
     }
 }

@@ -1,7 +1,7 @@
 //! The table of open jobs.
 
 ghost use Rattle.std.specs.Prelude.{◌≡◌, ◌≢◌, ◌++◌, ◌∷◌, [], map, position, Some, None, OnOk, OnErr, IfOk, IfErr, IfSome, IfNone};
-ghost use Rattle.job_leases.specs.Jobs.{first_free, is_free, is_job, leased, moved, newly_open, stage_of, unleased};
+ghost use Rattle.job_leases.specs.Jobs.{continued, first_free, is_free, is_job, leased, moved, newly_open, stage_of, unleased};
 
 use crate::job::{Lease, OpenJob, Stage};
 use dap_messages::JobNo;
@@ -108,6 +108,21 @@ impl Leases {
     {
         for open in self.jobs.iter_mut() {
             open.lease = None;
+        }
+    }
+
+    /// Closes the jobs that aren't past their Continue. Each other one then waits for the helper's answer to its ContReq,
+    /// without a lease, as after a restart, which knows of a job what is written. It takes no memory.
+    pub fn keep_continued(&mut self)
+        ensures { self.new ≡ continued self.old }
+    {
+        self.jobs.retain(|open| open.stage.is_continued());
+        for open in self.jobs.iter_mut() {
+            *open = OpenJob {
+                job: open.job,
+                stage: Stage::AwaitCont,
+                lease: None,
+            };
         }
     }
 }

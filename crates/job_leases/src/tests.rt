@@ -139,6 +139,34 @@ fn the_oldest_job_comes_first(rt: HostRuntime) -> Result<(), Fail> {
     Ok(())
 }
 
+#[test]
+fn jobs_past_their_continue_are_kept(rt: HostRuntime) -> Result<(), Fail> {
+    let mut leases = neighbours(rt.alloc())?;
+    let stages = [
+        (numbered(1, 1, 1), Stage::Combine),
+        (numbered(2, 1, 1), Stage::AwaitCont),
+        (numbered(1, 1, 2), Stage::Finish),
+    ];
+    for (job, stage) in stages {
+        assert!(rt; leases.submit(job, Stage::AwaitInit, Some(stage)).is_ok());
+    }
+    assert_eq!(rt; leases.lease(0, 1), Some(numbered(1, 1, 1)));
+    assert_eq!(rt; leases.lease(0, 1), Some(numbered(1, 1, 2)));
+    leases.keep_continued();
+    let waits = |job| OpenJob {
+        job,
+        stage: Stage::AwaitCont,
+        lease: None,
+    };
+    assert_eq!(rt;
+        leases.jobs(),
+        [waits(numbered(2, 1, 1)), waits(numbered(1, 1, 2))].as_slice()
+    );
+    leases.keep_continued();
+    assert_eq!(rt; leases.jobs().len(), 2);
+    Ok(())
+}
+
 /// The value again. It may be moved to another thread, and shared with it.
 fn shared<T: Send + Sync>(value: T) -> T {
     value

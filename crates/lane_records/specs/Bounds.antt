@@ -1,10 +1,14 @@
 -- The bounds of a histogram as a field.
-use Rattle.std.specs.Prelude.{ℕ, zero, suc, ◌+◌, ◌*◌, Bool, true, ◌&&◌, nat_lt, if◌then◌else◌, List, [], ◌∷◌, length, Option, Some, None, Result, Ok, Err}
+use Rattle.std.specs.Prelude.{ℕ, zero, suc, ◌+◌, ◌*◌, Bool, true, ◌&&◌, nat_lt, if◌then◌else◌, List, [], ◌∷◌, ◌++◌, length, Option, Some, None, Result, Ok, Err}
 use Rattle.std.specs.List.{flat_map}
-use Rattle.std.specs.Int.{w64, to_be_bytes}
+use Rattle.std.specs.Int.{w16, w64, to_be_bytes}
 use Rattle.dap_bytes.specs.Cursor.{Reading}
-use Rattle.dap_messages.specs.Grammar.{Grammar, ◌>>=◌, is_between, byte}
+use Rattle.vdaf_api.specs.declared.kind.TheConstants.{MOST_BOUNDS}
+use Rattle.dap_messages.specs.Grammar.{Grammar, ◌>>=◌, number, byte}
 use Rattle.dap_messages.specs.Forms.{any_u64}
+use Rattle.lane_records.specs.declared.bounds.TheConstants.{MOST_OLD_BOUNDS}
+use Rattle.lane_records.specs.declared.format.Format.{Format}
+use Rattle.lane_records.specs.declared.format.Format.TheVariants.{One, Two}
 
 -- a field whose value passes a further test
 abbrev pub passed : {A : Type 0} → ℕ → Bool → A × Reading → Result (A × Reading) ℕ
@@ -42,11 +46,16 @@ abbrev pub allowed_bounds : Option ℕ → List ℕ → Bool
 allowed_bounds last [] = true
 allowed_bounds last (x ∷ xs) = (bound last).allowed x && allowed_bounds (Some x) xs
 
--- a u8 number of 1 to 63, and that many bounds, which ascend strictly
-abbrev pub bounds : Grammar (List ℕ)
-bounds = record {
-  read = λ r. (byte 1 63).read r >>= λ n. bounds_at None n.0 n.1;
-  spell = λ xs. length xs ∷ spell_bounds xs;
-  allowed = λ xs. is_between 1 63 (length xs) && allowed_bounds None xs;
-  most = 1 + 63 * 8;
+-- how many bounds there are: in format 1 a u8, in format 2 a u16
+abbrev pub bound_count : Format → Grammar ℕ
+bound_count One = byte 1 MOST_OLD_BOUNDS
+bound_count Two = number w16 1 MOST_BOUNDS
+
+-- a number of bounds, and that many, which ascend strictly
+abbrev pub bounds : Format → Grammar (List ℕ)
+bounds f = record {
+  read = λ r. (bound_count f).read r >>= λ n. bounds_at None n.0 n.1;
+  spell = λ xs. (bound_count f).spell (length xs) ++ spell_bounds xs;
+  allowed = λ xs. (bound_count f).allowed (length xs) && allowed_bounds None xs;
+  most = 2 + MOST_BOUNDS * 8;
 }

@@ -6,12 +6,16 @@ use Rattle.std.proofs.lemmas.Bool.{leb-true}
 use Rattle.std.proofs.lemmas.List.{length-append}
 use Rattle.std.proofs.lemmas.List.Concat.{flat_map-cons}
 use Rattle.dap_bytes.specs.Cursor.{Reading, rest_of}
-use Rattle.dap_messages.specs.Grammar.{Grammar, ◌>>=◌, is_between, byte}
+use Rattle.vdaf_api.specs.declared.kind.TheConstants.{MOST_BOUNDS}
+use Rattle.dap_messages.specs.Grammar.{Grammar, ◌>>=◌}
 use Rattle.dap_messages.specs.Lawful.{Lawful, IsInput, Takes, further}
 use Rattle.dap_messages.specs.Laws.{Takes-then, Takes-nothing, input_stays, further-then, rest_further, bind_ok, done, ok_is, and_parts, both_true, byte_lawful}
 use Rattle.dap_messages.specs.Forms.{any_u64}
-use Rattle.dap_messages.specs.FormLaws.{u64_lawful}
-use Rattle.lane_records.specs.Bounds.{passed, restricted, is_over, bound, bounds_at, spell_bounds, allowed_bounds, bounds}
+use Rattle.dap_messages.specs.FormLaws.{u16_lawful, u64_lawful}
+use Rattle.lane_records.specs.declared.bounds.TheConstants.{MOST_OLD_BOUNDS}
+use Rattle.lane_records.specs.declared.format.Format.{Format}
+use Rattle.lane_records.specs.declared.format.Format.TheVariants.{One, Two}
+use Rattle.lane_records.specs.Bounds.{passed, restricted, is_over, bound, bounds_at, spell_bounds, allowed_bounds, bound_count, bounds}
 
 passed_ok : {A : Type 0} (at : ℕ) (holds : Bool) (x y : A × Reading) → passed at holds x ≡ Ok y → (holds ≡ true) × (x ≡ y)
 passed_ok at true x y e = (refl, ok_is x y e)
@@ -70,22 +74,41 @@ bounds_within (x ∷ xs) =
     let cons_is : length (spell_bounds (x ∷ xs)) ≡ 8 + length (spell_bounds xs) = ap (λ (t : List ℕ). length t) (flat_map-cons (to_be_bytes w64) x xs) ∙ length-append (to_be_bytes w64 x) (spell_bounds xs) in
     omega (arith, cons_is, bounds_within xs)
 
-pub bounds_lawful : Lawful bounds
-bounds_lawful = record {
+pub bound_count_lawful : (f : Format) → Lawful (bound_count f)
+bound_count_lawful One = byte_lawful 1 MOST_OLD_BOUNDS
+bound_count_lawful Two = u16_lawful 1 MOST_BOUNDS (lit≤ tt)
+
+-- no format has more bounds than a histogram
+pub few_bounds : (f : Format) (n : ℕ) → (bound_count f).allowed n ≡ true → n ≤ MOST_BOUNDS
+few_bounds One n a = let few = leb-true n MOST_OLD_BOUNDS (and_parts (nat_le 1 n) (nat_le n MOST_OLD_BOUNDS) a).1 in omega (arith, few)
+few_bounds Two n a = leb-true n MOST_BOUNDS (and_parts (nat_le 1 n) (nat_le n MOST_BOUNDS) a).1
+
+-- each has one at least
+pub some_bounds : (f : Format) (n : ℕ) → (bound_count f).allowed n ≡ true → 1 ≤ n
+some_bounds One n a = leb-true 1 n (and_parts (nat_le 1 n) (nat_le n MOST_OLD_BOUNDS) a).0
+some_bounds Two n a = leb-true 1 n (and_parts (nat_le 1 n) (nat_le n MOST_BOUNDS) a).0
+
+short_count : (f : Format) (n : ℕ) → length ((bound_count f).spell n) ≤ 2
+short_count One n = lit≤ tt
+short_count Two n = lit≤ tt
+
+pub bounds_lawful : (f : Format) → Lawful (bounds f)
+bounds_lawful f = record {
   takes = λ r xs s i e.
-      let a = bind_ok ((byte 1 63).read r) (λ n. bounds_at None n.0 n.1) (xs, s) e in
-      let first = (byte_lawful 1 63).takes r a.0.0 a.0.1 i a.1 in
-      let second = bounds_take a.0.0 None a.0.1 xs s (input_stays r (a.0.0 ∷ []) a.0.1 i first.0) a.2 in
-      subst (λ (n : ℕ). Takes r (n ∷ spell_bounds xs) s × ((is_between 1 63 n && allowed_bounds None xs) ≡ true)) (sym second.1)
-      (Takes-then r (a.0.0 ∷ []) a.0.1 (spell_bounds xs) s first.0 second.0, both_true (is_between 1 63 a.0.0) (allowed_bounds None xs) first.1 second.2);
+      let a = bind_ok ((bound_count f).read r) (λ n. bounds_at None n.0 n.1) (xs, s) e in
+      let first = (bound_count_lawful f).takes r a.0.0 a.0.1 i a.1 in
+      let second = bounds_take a.0.0 None a.0.1 xs s (input_stays r ((bound_count f).spell a.0.0) a.0.1 i first.0) a.2 in
+      subst (λ (n : ℕ). Takes r ((bound_count f).spell n ++ spell_bounds xs) s × (((bound_count f).allowed n && allowed_bounds None xs) ≡ true)) (sym second.1)
+      (Takes-then r ((bound_count f).spell a.0.0) a.0.1 (spell_bounds xs) s first.0 second.0, both_true ((bound_count f).allowed a.0.0) (allowed_bounds None xs) first.1 second.2);
   again = λ xs r rest a e.
-      let parts = and_parts (is_between 1 63 (length xs)) (allowed_bounds None xs) a in
-      let size : List ℕ = length xs ∷ [] in
-      let first = (byte_lawful 1 63).again (length xs) r (spell_bounds xs ++ rest) parts.0 e in
-      let second = bounds_again xs None (further 1 r) rest parts.1 (rest_further r size (spell_bounds xs ++ rest) e) in
+      let parts = and_parts ((bound_count f).allowed (length xs)) (allowed_bounds None xs) a in
+      let size : List ℕ = (bound_count f).spell (length xs) in
+      let whole_is : rest_of r ≡ size ++ (spell_bounds xs ++ rest) = e ∙ append_assoc size (spell_bounds xs) rest in
+      let first = (bound_count_lawful f).again (length xs) r (spell_bounds xs ++ rest) parts.0 whole_is in
+      let second = bounds_again xs None (further (length size) r) rest parts.1 (rest_further r size (spell_bounds xs ++ rest) whole_is) in
       rw first (second ∙ ap (λ (p : Reading). let z : List ℕ × Reading = (xs, p) in done z) (further-then r size (spell_bounds xs)));
   within = λ xs a.
-      let parts = and_parts (is_between 1 63 (length xs)) (allowed_bounds None xs) a in
-      let few : length xs ≤ 63 = leb-true (length xs) 63 (and_parts (nat_le 1 (length xs)) (nat_le (length xs) 63) parts.0).1 in
-      omega (arith, few, bounds_within xs);
+      let parts = and_parts ((bound_count f).allowed (length xs)) (allowed_bounds None xs) a in
+      let few : length xs ≤ MOST_BOUNDS = few_bounds f (length xs) parts.0 in
+      omega (arith, few, short_count f (length xs), bounds_within xs, length-append ((bound_count f).spell (length xs)) (spell_bounds xs));
 }

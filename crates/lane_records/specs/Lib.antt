@@ -2,6 +2,10 @@ pub mod Batch
 pub mod BatchLaws
 pub mod Bounds
 pub mod BoundsLaws
+pub mod Sizes
+pub mod SizesLaws
+pub mod FormatLaws
+pub mod Formats
 pub mod Journal
 pub mod RecordLaws
 pub mod Records

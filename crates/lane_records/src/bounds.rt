@@ -1,24 +1,45 @@
 //! The bounds of a histogram as a field.
 
-ghost use Rattle.std.specs.Prelude.{◌≡◌, ◌++◌, IsTrue, OnOk, None, Option, ℕ};
+ghost use Rattle.std.specs.Prelude.{◌≡◌, ◌++◌, IsTrue, OnOk, None, Option, ℕ, length};
 ghost use Rattle.dap_messages.specs.Spelled.{Finds, Gives, Answers};
-ghost use Rattle.lane_records.specs.Bounds.{is_over, bound, bounds_at, allowed_bounds, bounds};
+ghost use Rattle.lane_records.specs.Bounds.{is_over, bound, bounds_at, allowed_bounds, bound_count, bounds};
 
-use dap_bytes::{Cursor, put_u8, put_u64};
-use dap_messages::{Form, ReadFault, read_u8, read_u64};
+use crate::format::Format;
+use dap_bytes::{Cursor, put_u8, put_u16, put_u64};
+use dap_messages::{Form, ReadFault, read_u8, read_u16, read_u64};
 use std::alloc::{AllocError, Global};
-use vdaf_api::Bounds;
+use vdaf_api::{Bounds, MOST_BOUNDS};
 
-/// A u8 number of bounds, and the bounds, which ascend strictly.
-pub(crate) fn read_bounds(alloc: Global, cursor: &mut Cursor<'_>) -> Result<Bounds, ReadFault>
-    ensures { Gives bounds cursor.old result cursor.new }
+/// The most bounds of a histogram in a record of format 1.
+pub const MOST_OLD_BOUNDS: u8 = 63;
+
+/// A number of bounds, and the bounds, which ascend strictly.
+pub(crate) fn read_bounds(
+    alloc: Global,
+    cursor: &mut Cursor<'_>,
+    format: Format,
+) -> Result<Bounds, ReadFault>
+    ensures { Gives (bounds format) cursor.old result cursor.new }
 {
-    let count = read_u8(cursor, 1, 63)?;
+    let count = read_count(cursor, format)?;
     read_some(alloc, cursor, count)
 }
 
+/// How many bounds there are: in format 1 a u8, in format 2 a u16.
+fn read_count(cursor: &mut Cursor<'_>, format: Format) -> Result<u16, Form>
+    ensures { Finds (bound_count format) cursor.old result cursor.new }
+{
+    match format {
+        Format::One => {
+            let count = read_u8(cursor, 1, MOST_OLD_BOUNDS)?;
+            Ok(u16::from(count))
+        }
+        Format::Two => read_u16(cursor, 1, MOST_BOUNDS as u16),
+    }
+}
+
 /// So many bounds.
-fn read_some(alloc: Global, cursor: &mut Cursor<'_>, count: u8) -> Result<Bounds, ReadFault>
+fn read_some(alloc: Global, cursor: &mut Cursor<'_>, count: u16) -> Result<Bounds, ReadFault>
     ensures { Answers (bounds_at None count cursor.old) result cursor.new }
 {
     let mut found = Vec::new(alloc);
@@ -53,24 +74,49 @@ fn is_over(last: Option<u64>, number: u64) -> bool
 }
 
 /// Appends the number of bounds and the bounds.
-pub(crate) fn put_bounds(out: &mut Vec<u8>, given: &Bounds) -> Result<(), AllocError>
-    requires { IsTrue (bounds.allowed given.now) }
-    ensures { OnOk result (out.new.items ≡ out.old.items ++ bounds.spell given.now) }
+pub(crate) fn put_bounds(
+    out: &mut Vec<u8>,
+    given: &Bounds,
+    format: Format,
+) -> Result<(), AllocError>
+    requires { IsTrue ((bounds format).allowed given.now) }
+    ensures { OnOk result (out.new.items ≡ out.old.items ++ (bounds format).spell given.now) }
 {
     let numbers = given.as_slice();
-    put_u8(out, numbers.len() as u8)?;
+    put_count(out, numbers.len(), format)?;
     for number in numbers {
         put_u64(out, *number)?;
     }
     Ok(())
 }
 
-/// Whether they are the bounds of a histogram.
-pub(crate) fn are_bounds(given: &Bounds) -> bool
-    ensures { result ≡ bounds.allowed given.now }
+/// Appends a number of bounds.
+fn put_count(out: &mut Vec<u8>, count: usize, format: Format) -> Result<(), AllocError>
+    requires { IsTrue ((bound_count format).allowed count) }
+    ensures { OnOk result (out.new.items ≡ out.old.items ++ (bound_count format).spell count) }
+{
+    match format {
+        Format::One => put_u8(out, count as u8),
+        Format::Two => put_u16(out, count as u16),
+    }
+}
+
+/// Whether they are the bounds of a histogram in the format.
+pub(crate) fn are_bounds(given: &Bounds, format: Format) -> bool
+    ensures { result ≡ (bounds format).allowed given.now }
 {
     let numbers = given.as_slice();
-    (1..=63).contains(&numbers.len()) && do_ascend(numbers)
+    is_count(numbers.len(), format) && do_ascend(numbers)
+}
+
+/// Whether a histogram has so many bounds in the format.
+fn is_count(count: usize, format: Format) -> bool
+    ensures { result ≡ (bound_count format).allowed count }
+{
+    match format {
+        Format::One => (1..=usize::from(MOST_OLD_BOUNDS)).contains(&count),
+        Format::Two => (1..=MOST_BOUNDS).contains(&count),
+    }
 }
 
 /// Whether each is above the one before it.

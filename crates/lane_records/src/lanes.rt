@@ -1,43 +1,43 @@
 //! The records of lanes behind their first bytes: the readers, and what appends them with it.
 
 ghost use Rattle.std.specs.Prelude.{◌≡◌, ◌++◌, ◌∷◌, IsTrue, OnOk};
-ghost use Rattle.dap_messages.specs.Spelled.{Finds, Gives};
+ghost use Rattle.dap_messages.specs.Spelled.{Gives};
 ghost use Rattle.lane_records.specs.Records.{lane_open, continue_fields, start_fields, outcomes, close_fields, leader_open, accept, continue_, finish, leader_close, helper_open, start, commit, helper_close};
 
 use crate::closed::Closed;
+use crate::format::Format;
 use crate::outcome::Outcome;
 use crate::record::Record;
 use dap_bytes::{Cursor, LATEST_TIME, Name, put_u8, put_u64};
 use dap_messages::{
-    Form, Half, Items, JobNo, ReadFault, Report, Spelled, Step, put_name, read_name, read_u8,
-    read_u64,
+    Half, Items, JobNo, ReadFault, Report, Spelled, Step, put_name, read_name, read_u8, read_u64,
 };
 use std::alloc::{AllocError, Global};
 
 /// The fields of a lane's Open.
-fn read_lanes(cursor: &mut Cursor<'_>) -> Result<(u8, u8), Form>
-    ensures { Finds lane_open cursor.old result cursor.new }
+fn read_lanes(alloc: Global, cursor: &mut Cursor<'_>) -> Result<(Format, (u8, u8)), ReadFault>
+    ensures { Gives lane_open cursor.old result cursor.new }
 {
-    read_u8(cursor, 1, 1)?;
+    let format = Format::read(alloc, cursor)?;
     let lanes = read_u8(cursor, 0, u8::MAX)?;
     let lane = read_u8(cursor, 0, u8::MAX)?;
-    Ok((lanes, lane))
+    Ok((format, (lanes, lane)))
 }
 
 /// A leader lane's Open.
-pub(crate) fn read_leader_open(cursor: &mut Cursor<'_>) -> Result<Record, ReadFault>
+pub(crate) fn read_leader_open(alloc: Global, cursor: &mut Cursor<'_>) -> Result<Record, ReadFault>
     ensures { Gives leader_open cursor.old result cursor.new }
 {
-    let (lanes, lane) = read_lanes(cursor)?;
-    Ok(Record::LeaderOpen(lanes, lane))
+    let (format, (lanes, lane)) = read_lanes(alloc, cursor)?;
+    Ok(Record::LeaderOpen(format, lanes, lane))
 }
 
 /// A helper lane's Open.
-pub(crate) fn read_helper_open(cursor: &mut Cursor<'_>) -> Result<Record, ReadFault>
+pub(crate) fn read_helper_open(alloc: Global, cursor: &mut Cursor<'_>) -> Result<Record, ReadFault>
     ensures { Gives helper_open cursor.old result cursor.new }
 {
-    let (lanes, lane) = read_lanes(cursor)?;
-    Ok(Record::HelperOpen(lanes, lane))
+    let (format, (lanes, lane)) = read_lanes(alloc, cursor)?;
+    Ok(Record::HelperOpen(format, lanes, lane))
 }
 
 /// An Accept.
@@ -112,13 +112,14 @@ pub(crate) fn read_helper_close(alloc: Global, cursor: &mut Cursor<'_>) -> Resul
 pub(crate) fn put_lane_open(
     out: &mut Vec<u8>,
     first: u8,
+    format: Format,
     lanes: u8,
     lane: u8,
 ) -> Result<(), AllocError>
-    ensures { OnOk result (out.new.items ≡ out.old.items ++ first ∷ lane_open.spell (lanes, lane)) }
+    ensures { OnOk result (out.new.items ≡ out.old.items ++ first ∷ lane_open.spell (format, (lanes, lane))) }
 {
     put_u8(out, first)?;
-    put_u8(out, 1)?;
+    put_u8(out, format.byte())?;
     put_u8(out, lanes)?;
     put_u8(out, lane)
 }
@@ -131,7 +132,8 @@ pub(crate) fn put_continue(
     steps: &Items<Step>,
 ) -> Result<(), AllocError>
     requires { IsTrue (continue_fields.allowed (name.now, (job.now, steps.now))) }
-    ensures { OnOk result (out.new.items ≡ out.old.items ++ 3 ∷ continue_fields.spell (name.now, (job.now, steps.now))) }
+    ensures { OnOk result
+        (out.new.items ≡ out.old.items ++ 3 ∷ continue_fields.spell (name.now, (job.now, steps.now))) }
 {
     put_u8(out, 0x03)?;
     put_name(out, name)?;
@@ -181,7 +183,8 @@ pub(crate) fn put_close(
     closed: &Closed,
 ) -> Result<(), AllocError>
     requires { IsTrue (close_fields.allowed (name.now, (start, closed.now))) }
-    ensures { OnOk result (out.new.items ≡ out.old.items ++ first ∷ close_fields.spell (name.now, (start, closed.now))) }
+    ensures { OnOk result
+        (out.new.items ≡ out.old.items ++ first ∷ close_fields.spell (name.now, (start, closed.now))) }
 {
     put_u8(out, first)?;
     put_name(out, name)?;

@@ -3,7 +3,7 @@
 ghost use Rattle.std.specs.Prelude.{◌≡◌, ℕ, ◌+◌, ◌≤◌, ◌<◌, IsTrue, List, Ok, length};
 ghost use Rattle.std.specs.List.{All};
 ghost use Rattle.dap_messages.specs.Grammar.{whole};
-ghost use Rattle.vdaf_api.specs.TaskNumbers.{AreTaskNumbers};
+ghost use Rattle.vdaf_api.specs.TaskNumbers.{AreTaskNumbers, IsExpiry};
 ghost use Rattle.lane_records.specs.declared.record.Record.{Record};
 ghost use Rattle.lane_records.specs.declared.stored.StoredTask.{StoredTask};
 ghost use Rattle.lane_records.specs.Records.{record_};
@@ -29,7 +29,9 @@ pub fn records_are_read()
         → IsTrue (record_.allowed x) × (text ≡ record_.spell x) }
 {}
 
-/// A law: the kind, the minimum and the precision of a Task record are within the ranges of a task.
+/// A law: the kind, the minimum, the precision and the expiry of a Task record are within the ranges of a task.
 pub fn stored_tasks_are_within_ranges()
-    ensures { (t : StoredTask) → IsTrue (stored.allowed t) → AreTaskNumbers t.kind t.min t.precision }
+    ensures numbers { (t : StoredTask) → IsTrue ((stored t.format).allowed t)
+        → AreTaskNumbers t.kind t.min t.precision }
+    ensures expiry { (t : StoredTask) → IsTrue ((stored t.format).allowed t) → IsExpiry t.expires }
 {}

@@ -5,6 +5,7 @@
 mod batch;
 mod bounds;
 mod closed;
+mod format;
 mod fronts;
 mod journal;
 mod lanes;
@@ -13,10 +14,13 @@ mod outcome;
 mod place;
 mod reading;
 mod record;
+mod sizes;
 mod stored;
 
-pub use batch::{Answered, Request, Response};
+pub use batch::Answered;
+pub use bounds::MOST_OLD_BOUNDS;
 pub use closed::Closed;
+pub use format::Format;
 pub use journal::{RecordsFault, read_records};
 pub use laws::{
     MOST_RECORD, records_are_bounded, records_are_read, stored_tasks_are_within_ranges,

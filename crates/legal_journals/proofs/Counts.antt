@@ -1,13 +1,16 @@
 -- Lemmas: the counts of records, with one more and without it.
-use Rattle.std.proofs.Common.{◌≡◌, ℕ, ◌+◌, ◌-◌, ◌≤◌, Bool, true, false, not, cond, List, [], ◌∷◌, ◌++◌, length, Option, Some, None, is_some, refl, sym, ap, ◌∙◌, count_by, arith}
+use Rattle.std.proofs.Common.{◌≡◌, ℕ, zero, suc, ◌+◌, ◌-◌, ◌≤◌, ◌==◌, Bool, true, false, ◌&&◌, cond, List, [], ◌∷◌, ◌++◌, length, Option, Some, None, is_some, refl, sym, ap, ◌∙◌, count_by, arith}
+use Rattle.std.proofs.lemmas.Bool.{eqb-true}
 use Rattle.std.proofs.lemmas.List.{length-append}
 use Rattle.std.proofs.lemmas.List.Sums.{sum_by-cons}
-use Rattle.std.specs.Option.{option_or, unwrap_or}
+use Rattle.std.specs.Option.{option_or}
+use Rattle.lane_records.specs.declared.format.Format.{Format}
+use Rattle.lane_records.specs.declared.format.Format.TheVariants.{One, Two}
 use Rattle.lane_records.specs.declared.record.Record.{Record}
-use Rattle.legal_journals.specs.History.{first, lanes_in}
-use Rattle.legal_journals.specs.HistoryTests.{is_open}
 use Rattle.legal_journals.specs.declared.opens.Opens.{Opens}
-use Rattle.legal_journals.specs.Places.{AreOpens}
+use Rattle.legal_journals.specs.History.{first, lanes_in, format_in}
+use Rattle.legal_journals.specs.HistoryTests.{is_open, is_up_to, has_format}
+use Rattle.legal_journals.specs.Places.{is_two, opens_two, AreOpens}
 
 or_none : {B : Type 0} (o : Option B) → option_or o None ≡ o
 or_none None = refl
@@ -21,24 +24,24 @@ pub first-push : {A B : Type 0} (f : A → Option B) (xs : List A) (x : A) → f
 first-push f [] x = or_none (f x)
 first-push f (y ∷ xs) x = ap (option_or (f y)) (first-push f xs x) ∙ or_assoc (f y) (first f xs) (f x)
 
-pub opens-cons : (x : Record) (records : List Record) → count_by is_open (x ∷ records) ≡ cond (is_some (lanes_in x)) 1 0 + count_by is_open records
-opens-cons x records = sum_by-cons (λ (x : Record). cond (is_open x) 1 0) x records
+pub count-cons : (test : Record → Bool) (x : Record) (records : List Record) → count_by test (x ∷ records) ≡ cond (test x) 1 0 + count_by test records
+count-cons test x records = sum_by-cons (λ (x : Record). cond (test x) 1 0) x records
 
-pub opens-push : (records : List Record) (x : Record) → count_by is_open (records ++ x ∷ []) ≡ count_by is_open records + cond (is_some (lanes_in x)) 1 0
-opens-push [] x = let c = opens-cons x [] in omega arith
-opens-push (y ∷ records) x = let a = opens-cons y (records ++ x ∷ []) in let b = opens-cons y records in let c = opens-push records x in omega arith
+pub count-push : (test : Record → Bool) (records : List Record) (x : Record) → count_by test (records ++ x ∷ []) ≡ count_by test records + cond (test x) 1 0
+count-push test [] x = let c = count-cons test x [] in omega arith
+count-push test (y ∷ records) x = let a = count-cons test y (records ++ x ∷ []) in let b = count-cons test y records in let c = count-push test records x in omega arith
 
 -- where there is no Open, none names lanes
 no_lanes : (records : List Record) → count_by is_open records ≡ 0 → first lanes_in records ≡ None
 no_lanes [] e = refl
-no_lanes (y ∷ records) e = by_lanes (no_lanes records) (lanes_in y) (sym (opens-cons y records) ∙ e) where
+no_lanes (y ∷ records) e = by_lanes (no_lanes records) (lanes_in y) (sym (count-cons is_open y records) ∙ e) where
   by_lanes : (count_by is_open records ≡ 0 → first lanes_in records ≡ None) → (o : Option ℕ) → cond (is_some o) 1 0 + count_by is_open records ≡ 0 → option_or o (first lanes_in records) ≡ None
   by_lanes rest None z = rest (omega arith)
   by_lanes rest (Some n) z = absurd (omega arith)
 
 none_open : (records : List Record) → first lanes_in records ≡ None → count_by is_open records ≡ 0
 none_open [] e = refl
-none_open (y ∷ records) e = opens-cons y records ∙ by_lanes (none_open records) (lanes_in y) e where
+none_open (y ∷ records) e = count-cons is_open y records ∙ by_lanes (none_open records) (lanes_in y) e where
   by_lanes : (first lanes_in records ≡ None → count_by is_open records ≡ 0) → (o : Option ℕ) → option_or o (first lanes_in records) ≡ None → cond (is_some o) 1 0 + count_by is_open records ≡ 0
   by_lanes rest None e = let z = rest e in omega arith
   by_lanes rest (Some n) e = absurd cc
@@ -49,71 +52,58 @@ some_lanes records x le = first-push lanes_in records x ∙ by_first (first lane
   by_first None e = let z = none_open records e in absurd (omega arith)
   by_first (Some n) e = refl
 
-abbrev one : Bool → ℕ
-one b = cond b 1 0
+-- ---- one record more, and without it
 
-no_open : (x : Record) → lanes_in x ≡ None → one (is_some (lanes_in x)) ≡ 0
-no_open x e = ap (λ (o : Option ℕ). one (is_some o)) e
-
-an_open : (x : Record) → is_some (lanes_in x) ≡ true → one (is_some (lanes_in x)) ≡ 1
-an_open x e = ap (λ (b : Bool). one b) e
-
--- ---- a record that is no Open
-
-pub quiet_more : (o : Opens) (records : List Record) (x : Record) (n : ℕ) → lanes_in x ≡ None → n ≡ o.count + 1 → AreOpens o records
-    → AreOpens (record { count = n; opens = o.opens; lanes = o.lanes }) (records ++ x ∷ [])
-quiet_more o records x n quiet is h = record {
-  count = is ∙ ap (λ m. m + 1) h.count ∙ sym (length-append records (x ∷ []));
-  opens = (let c = opens-push records x in let z = no_open x quiet in let e = h.opens in omega arith);
-  lanes = h.lanes ∙ sym (or_none (first lanes_in records)) ∙ ap (option_or (first lanes_in records)) (sym quiet) ∙ sym (first-push lanes_in records x);
+pub one_more : (o p : Opens) (records : List Record) (x : Record) → p.count ≡ o.count + 1 → p.opens ≡ o.opens + cond (is_open x) 1 0 → p.twos ≡ o.twos + cond (opens_two x) 1 0
+    → p.lanes ≡ option_or o.lanes (lanes_in x) → AreOpens o records → AreOpens p (records ++ x ∷ [])
+one_more o p records x count opens twos lanes h = record {
+  count = count ∙ ap (λ m. m + 1) h.count ∙ sym (length-append records (x ∷ []));
+  opens = opens ∙ ap (λ m. m + cond (is_open x) 1 0) h.opens ∙ sym (count-push is_open records x);
+  twos = twos ∙ ap (λ m. m + cond (opens_two x) 1 0) h.twos ∙ sym (count-push opens_two records x);
+  lanes = lanes ∙ ap (λ l. option_or l (lanes_in x)) h.lanes ∙ sym (first-push lanes_in records x);
 }
 
-pub quiet_less : (o : Opens) (records : List Record) (x : Record) (n : ℕ) → lanes_in x ≡ None → n ≡ o.count - 1 → AreOpens o (records ++ x ∷ [])
-    → AreOpens (record { count = n; opens = o.opens; lanes = o.lanes }) records
-quiet_less o records x n quiet is h = record {
-  count = (let c : length (records ++ x ∷ []) ≡ length records + 1 = length-append records (x ∷ []) in let e = h.count in omega arith);
-  opens = (let c = opens-push records x in let z = no_open x quiet in let e = h.opens in omega arith);
-  lanes = h.lanes ∙ first-push lanes_in records x ∙ ap (option_or (first lanes_in records)) quiet ∙ or_none (first lanes_in records);
-}
+-- what was added is taken off again
+less : (n m k : ℕ) → n ≡ m + k → n - k ≡ m
+less n m k e = omega arith
 
--- ---- an Open
-
-pub open_more : (o : Opens) (records : List Record) (x : Record) (n k l m : ℕ) → lanes_in x ≡ Some l → n ≡ o.count + 1 → k ≡ o.opens + 1 → Some m ≡ option_or o.lanes (Some l) → AreOpens o records
-    → AreOpens (record { count = n; opens = k; lanes = Some m }) (records ++ x ∷ [])
-open_more o records x n k l m opened is one named h = record {
-  count = is ∙ ap (λ m. m + 1) h.count ∙ sym (length-append records (x ∷ []));
-  opens = (let c = opens-push records x in let z = an_open x (ap is_some opened) in let e = h.opens in omega arith);
-  lanes = named ∙ ap (λ o. option_or o (Some l)) h.lanes ∙ ap (option_or (first lanes_in records)) (sym opened) ∙ sym (first-push lanes_in records x);
-}
-
-one_fewer : (o : Opens) (records : List Record) (x : Record) → is_some (lanes_in x) ≡ true → AreOpens o (records ++ x ∷ []) → o.opens ≡ count_by is_open records + 1
-one_fewer o records x opened h = let c = opens-push records x in let z = an_open x opened in let e = h.opens in omega arith
-
-pub open_less : (o : Opens) (records : List Record) (x : Record) (n k : ℕ) → is_some (lanes_in x) ≡ true → n ≡ o.count - 1 → k ≡ o.opens - 1 → 1 ≤ k → AreOpens o (records ++ x ∷ [])
-    → AreOpens (record { count = n; opens = k; lanes = o.lanes }) records
-open_less o records x n k opened is one some h =
-    let fewer = one_fewer o records x opened h in record {
-      count = (let c : length (records ++ x ∷ []) ≡ length records + 1 = length-append records (x ∷ []) in let e = h.count in omega arith);
-      opens = omega arith;
-      lanes = h.lanes ∙ some_lanes records x (omega arith);
+pub one_less : (o p : Opens) (records : List Record) (x : Record) → p.count ≡ o.count - 1 → p.opens ≡ o.opens - cond (is_open x) 1 0 → p.twos ≡ o.twos - cond (opens_two x) 1 0
+    → (p.opens ≡ 0 → p.lanes ≡ None) → (1 ≤ p.opens → p.lanes ≡ o.lanes) → AreOpens o (records ++ x ∷ []) → AreOpens p records
+one_less o p records x count opens twos none some h =
+    let left : p.opens ≡ count_by is_open records = opens ∙ less o.opens (count_by is_open records) (cond (is_open x) 1 0) (h.opens ∙ count-push is_open records x) in record {
+      count = count ∙ less o.count (length records) 1 (h.count ∙ length-append records (x ∷ []));
+      opens = left;
+      twos = twos ∙ less o.twos (count_by opens_two records) (cond (opens_two x) 1 0) (h.twos ∙ count-push opens_two records x);
+      lanes = by_count p.opens refl left;
     }
+  where
+    by_count : (n : ℕ) → p.opens ≡ n → n ≡ count_by is_open records → p.lanes ≡ first lanes_in records
+    by_count zero e left = none e ∙ sym (no_lanes records (sym left))
+    by_count (suc n) e left =
+        let one : 1 ≤ count_by is_open records = omega arith in
+        some (omega arith) ∙ h.lanes ∙ some_lanes records x one
 
-pub last_less : (o : Opens) (records : List Record) (x : Record) (n k : ℕ) → is_some (lanes_in x) ≡ true → n ≡ o.count - 1 → k ≡ o.opens - 1 → k ≡ 0 → AreOpens o (records ++ x ∷ [])
-    → AreOpens (record { count = n; opens = k; lanes = None }) records
-last_less o records x n k opened is one nothing h =
-    let fewer = one_fewer o records x opened h in record {
-      count = (let c : length (records ++ x ∷ []) ≡ length records + 1 = length-append records (x ∷ []) in let e = h.count in omega arith);
-      opens = omega arith;
-      lanes = sym (no_lanes records (omega arith));
-    }
+-- ---- formats
 
-pub or_else : (o : Option ℕ) (l m : ℕ) → m ≡ unwrap_or o l → Some m ≡ option_or o (Some l)
-or_else None l m e = ap (λ (n : ℕ). let s : Option ℕ = Some n in s) e
-or_else (Some n) l m e = ap (λ (n : ℕ). let s : Option ℕ = Some n in s) e
+up_to_two : (o : Option Format) → is_up_to Two o ≡ true
+up_to_two None = refl
+up_to_two (Some One) = refl
+up_to_two (Some Two) = refl
 
-pub is_none : (o : Option ℕ) (b : Bool) → is_some o ≡ not b → b ≡ true → o ≡ None
-is_none None b e t = refl
-is_none (Some n) b e t = let f : true ≡ not true = e ∙ ap not t in absurd cc
+pub any_format : (records : List Record) → has_format Two records ≡ true
+any_format [] = refl
+any_format (x ∷ records) = ap (λ b. b && has_format Two records) (up_to_two (format_in x)) ∙ any_format records
 
-pub is_one : (o : Option ℕ) (b : Bool) → is_some o ≡ not b → b ≡ false → is_some o ≡ true
-is_one o b e f = e ∙ ap not f
+none_zero : (b : Bool) (n : ℕ) → (1 + n == 0) ≡ b → false ≡ b
+none_zero false n e = refl
+none_zero true n e = absurd (let z = eqb-true (1 + n) 0 e in omega arith)
+
+one_format : (o : Option Format) (n : ℕ) (b : Bool) → b ≡ (n == 0) → (is_up_to One o && b) ≡ (cond (is_two o) 1 0 + n == 0)
+one_format None n b e = e ∙ ap (λ m. m == 0) (let z : n ≡ 0 + n = omega arith in z)
+one_format (Some One) n b e = e ∙ ap (λ m. m == 0) (let z : n ≡ 0 + n = omega arith in z)
+one_format (Some Two) n b e = none_zero (1 + n == 0) n refl
+
+-- format 1 where no Open is of format 2
+pub no_twos : (records : List Record) → has_format One records ≡ (count_by opens_two records == 0)
+no_twos [] = refl
+no_twos (x ∷ records) = one_format (format_in x) (count_by opens_two records) (has_format One records) (no_twos records) ∙ ap (λ m. m == 0) (sym (count-cons opens_two x records))

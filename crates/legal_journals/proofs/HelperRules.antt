@@ -167,7 +167,7 @@ may_start-Decides lane j n hs earlier =
     )
 
 pub helper_lane_may-Decides : (lane : ℕ) (x : Record) (earlier : List Record) → Decides (helper_lane_may lane x earlier) (HelperLaneMay lane x (reverse earlier))
-helper_lane_may-Decides lane (HelperOpen lanes own) earlier = lane_open-Decides lane lanes own earlier
+helper_lane_may-Decides lane (HelperOpen f lanes own) earlier = lane_open-Decides f lane lanes own earlier
 helper_lane_may-Decides lane (Start j n hs) earlier = may_start-Decides lane j n hs earlier
 helper_lane_may-Decides lane (Commit j outs) earlier =
     Decides-and _ _ (started_for-Decides j outs earlier) (Decides-not (list_any (commits_job j) earlier) (committed-Decides j earlier))

@@ -9,7 +9,7 @@ use Rattle.legal_journals.specs.History.{Mem, first, lanes_in}
 use Rattle.legal_journals.specs.HistoryTests.{is_open, is_none_but, puts_into, is_of_lane}
 use Rattle.legal_journals.proofs.Members.{any_tells, any_told, all_tells, all_told}
 use Rattle.legal_journals.specs.Places.{HaveOneNumber}
-use Rattle.legal_journals.proofs.Counts.{opens-cons}
+use Rattle.legal_journals.proofs.Counts.{count-cons}
 
 -- the first value is of one that stands in the list
 pub first_member : {A B : Type 0} (f : A → Option B) (xs : List A) (b : B) → first f xs ≡ Some b → (x : A) × Mem x xs × (f x ≡ Some b)
@@ -26,7 +26,7 @@ or-open (Some l) n = lt-ltb 0 (1 + n) (omega arith)
 pub any_open : (records : List Record) → list_any is_open records ≡ nat_lt 0 (count_by is_open records)
 any_open [] = refl
 any_open (x ∷ records) =
-    ap (λ b. is_open x || b) (any_open records) ∙ sym (or-open (lanes_in x) (count_by is_open records)) ∙ ap (nat_lt 0) (sym (opens-cons x records))
+    ap (λ b. is_open x || b) (any_open records) ∙ sym (or-open (lanes_in x) (count_by is_open records)) ∙ ap (nat_lt 0) (sym (count-cons is_open x records))
 
 pub none_but : (lanes : ℕ) (records : List Record) → HaveOneNumber records → list_all (λ x. is_none_but lanes (lanes_in x)) records ≡ is_none_but lanes (first lanes_in records)
 none_but lanes records one =

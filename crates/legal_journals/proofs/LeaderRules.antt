@@ -11,17 +11,18 @@ use Rattle.dap_messages.specs.declared.report.Report.{Report}
 use Rattle.dap_messages.specs.Items.{ids_of}
 use Rattle.lane_records.specs.declared.outcome.Outcome.{Outcome}
 use Rattle.lane_records.specs.declared.closed.Closed.{Closed}
+use Rattle.lane_records.specs.declared.format.Format.{Format}
 use Rattle.lane_records.specs.declared.record.Record.{Record}
 use Rattle.lane_records.specs.declared.record.Record.TheVariants.{LeaderOpen, Accept, Continue, Finish, LeaderClose}
-use Rattle.legal_journals.specs.History.{Mem, opens, HasLanes}
+use Rattle.legal_journals.specs.History.{Mem, opens, MayOpen}
 use Rattle.legal_journals.specs.LegalLanes.{WasAccepted, WasContinued, IsContinued, IsContinuedWith, IsFinished, IsLeaderClosed, LeaderLaneMay}
-use Rattle.legal_journals.specs.HistoryTests.{is_open, has_lanes, has_id, same_ids}
+use Rattle.legal_journals.specs.HistoryTests.{is_open, may_open, has_id, same_ids}
 use Rattle.dap_messages.specs.Jobs.{is_same_job}
 use Rattle.dap_messages.specs.JobLaws.{same_job-Decides}
 use Rattle.legal_journals.specs.LaneTests.{accepts, continues_report, continues_job, continues_with, finishes_job, leader_closes, is_waiting, may_continue, leader_lane_may}
 use Rattle.legal_journals.proofs.Members.{any_decides, one_decides}
 use Rattle.legal_journals.proofs.ItemTests.{same_batch, has_id-Decides, same_ids-Decides, each_id-Decides}
-use Rattle.legal_journals.proofs.OpenTests.{opens-reverse, has_lanes-Decides, is_of_lane-Decides}
+use Rattle.legal_journals.proofs.OpenTests.{opens-reverse, may_open-Decides, is_of_lane-Decides}
 
 -- ---- single records
 
@@ -121,21 +122,21 @@ may_continue-Decides lane n j xs earlier =
     )
 
 -- an Open of a lane
-pub lane_open-Decides : (lane lanes own : ℕ) (earlier : List Record)
-    → Decides (has_lanes lanes earlier && own == lane && nat_lt lane lanes) (HasLanes lanes (reverse earlier) × (own ≡ lane) × (lane < lanes))
-lane_open-Decides lane lanes own earlier =
-    let d0 = has_lanes-Decides lanes earlier in
+pub lane_open-Decides : (f : Format) (lane lanes own : ℕ) (earlier : List Record)
+    → Decides (may_open f lanes earlier && own == lane && nat_lt lane lanes) (MayOpen f lanes (reverse earlier) × (own ≡ lane) × (lane < lanes))
+lane_open-Decides f lane lanes own earlier =
+    let d0 = may_open-Decides f lanes earlier in
     let d1 = Decides-eqb own lane in
     let d2 = Decides-ltb lane lanes in (
       λ e.
-          let p = and_parts (has_lanes lanes earlier && own == lane) (nat_lt lane lanes) e in
-          let q = and_parts (has_lanes lanes earlier) (own == lane) p.0 in
+          let p = and_parts (may_open f lanes earlier && own == lane) (nat_lt lane lanes) e in
+          let q = and_parts (may_open f lanes earlier) (own == lane) p.0 in
           (d0.0 q.0, d1.0 q.1, d2.0 p.1),
-      λ h. and_from (has_lanes lanes earlier && own == lane) (nat_lt lane lanes) (and_from (has_lanes lanes earlier) (own == lane) (d0.1 h.0) (d1.1 h.1)) (d2.1 h.2),
+      λ h. and_from (may_open f lanes earlier && own == lane) (nat_lt lane lanes) (and_from (may_open f lanes earlier) (own == lane) (d0.1 h.0) (d1.1 h.1)) (d2.1 h.2),
     )
 
 pub leader_lane_may-Decides : (lane : ℕ) (x : Record) (earlier : List Record) → Decides (leader_lane_may lane x earlier) (LeaderLaneMay lane x (reverse earlier))
-leader_lane_may-Decides lane (LeaderOpen lanes own) earlier = lane_open-Decides lane lanes own earlier
+leader_lane_may-Decides lane (LeaderOpen f lanes own) earlier = lane_open-Decides f lane lanes own earlier
 leader_lane_may-Decides lane (Accept r) earlier =
     Decides-and _ _ (is_of_lane-Decides lane r.id earlier) (Decides-not (list_any (accepts r.name r.id) earlier) (accepted-Decides r.name r.id earlier))
 leader_lane_may-Decides lane (Continue n j xs) earlier = may_continue-Decides lane n j xs earlier

@@ -1,4 +1,5 @@
 pub mod Amongs
+pub mod Batches
 pub mod Counts
 pub mod Entries
 pub mod Firsts

@@ -14,25 +14,25 @@ use Rattle.legal_journals.proofs.Lanes.{first_member, first_none}
 
 -- an Open of a part names as many lanes as those before it
 open_lanes : (node : Node) (part : Part) (x : Record) (old : List Record) (n : ℕ) → PartMay node part x old → lanes_in x ≡ Some n → HasLanes n old
-open_lanes Leader (Lane lane) (LeaderOpen lanes own) old n may e = let same : lanes ≡ n = cc in subst (λ (k : ℕ). HasLanes k old) same may.0
-open_lanes Leader (Lane lane) (HelperOpen lanes own) old n may e = absurd may
-open_lanes Leader (Lane lane) (LeaderFrontOpen lanes) old n may e = absurd may
-open_lanes Leader (Lane lane) (HelperFrontOpen lanes) old n may e = absurd may
+open_lanes Leader (Lane lane) (LeaderOpen f lanes own) old n may e = let same : lanes ≡ n = cc in subst (λ (k : ℕ). HasLanes k old) same may.0.0
+open_lanes Leader (Lane lane) (HelperOpen f lanes own) old n may e = absurd may
+open_lanes Leader (Lane lane) (LeaderFrontOpen f lanes) old n may e = absurd may
+open_lanes Leader (Lane lane) (HelperFrontOpen f lanes) old n may e = absurd may
 open_lanes Leader (Lane lane) _ old n may e = absurd cc
-open_lanes Leader Front (LeaderOpen lanes own) old n may e = absurd may
-open_lanes Leader Front (HelperOpen lanes own) old n may e = absurd may
-open_lanes Leader Front (LeaderFrontOpen lanes) old n may e = let same : lanes ≡ n = cc in subst (λ (k : ℕ). HasLanes k old) same may
-open_lanes Leader Front (HelperFrontOpen lanes) old n may e = absurd may
+open_lanes Leader Front (LeaderOpen f lanes own) old n may e = absurd may
+open_lanes Leader Front (HelperOpen f lanes own) old n may e = absurd may
+open_lanes Leader Front (LeaderFrontOpen f lanes) old n may e = let same : lanes ≡ n = cc in subst (λ (k : ℕ). HasLanes k old) same may.0
+open_lanes Leader Front (HelperFrontOpen f lanes) old n may e = absurd may
 open_lanes Leader Front _ old n may e = absurd cc
-open_lanes Helper (Lane lane) (LeaderOpen lanes own) old n may e = absurd may
-open_lanes Helper (Lane lane) (HelperOpen lanes own) old n may e = let same : lanes ≡ n = cc in subst (λ (k : ℕ). HasLanes k old) same may.0
-open_lanes Helper (Lane lane) (LeaderFrontOpen lanes) old n may e = absurd may
-open_lanes Helper (Lane lane) (HelperFrontOpen lanes) old n may e = absurd may
+open_lanes Helper (Lane lane) (LeaderOpen f lanes own) old n may e = absurd may
+open_lanes Helper (Lane lane) (HelperOpen f lanes own) old n may e = let same : lanes ≡ n = cc in subst (λ (k : ℕ). HasLanes k old) same may.0.0
+open_lanes Helper (Lane lane) (LeaderFrontOpen f lanes) old n may e = absurd may
+open_lanes Helper (Lane lane) (HelperFrontOpen f lanes) old n may e = absurd may
 open_lanes Helper (Lane lane) _ old n may e = absurd cc
-open_lanes Helper Front (LeaderOpen lanes own) old n may e = absurd may
-open_lanes Helper Front (HelperOpen lanes own) old n may e = absurd may
-open_lanes Helper Front (LeaderFrontOpen lanes) old n may e = absurd may
-open_lanes Helper Front (HelperFrontOpen lanes) old n may e = let same : lanes ≡ n = cc in subst (λ (k : ℕ). HasLanes k old) same may
+open_lanes Helper Front (LeaderOpen f lanes own) old n may e = absurd may
+open_lanes Helper Front (HelperOpen f lanes own) old n may e = absurd may
+open_lanes Helper Front (LeaderFrontOpen f lanes) old n may e = absurd may
+open_lanes Helper Front (HelperFrontOpen f lanes) old n may e = let same : lanes ≡ n = cc in subst (λ (k : ℕ). HasLanes k old) same may.0
 open_lanes Helper Front _ old n may e = absurd cc
 
 agree : (node : Node) (part : Part) (l : List Record) → IsLegal node part l → (x y : Record) (n m : ℕ) → Mem x l → Mem y l → lanes_in x ≡ Some n → lanes_in y ≡ Some m → n ≡ m

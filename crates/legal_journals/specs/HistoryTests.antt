@@ -7,8 +7,10 @@ use Rattle.dap_batch.specs.Group.{lane_number}
 use Rattle.dap_messages.specs.declared.item.Tagged.{Tagged}
 use Rattle.dap_messages.specs.Items.{ids_of}
 use Rattle.lane_records.specs.declared.place.TheConstants.{MOST_LANES}
+use Rattle.lane_records.specs.declared.format.Format.{Format}
+use Rattle.lane_records.specs.Formats.{byte_of_format}
 use Rattle.lane_records.specs.declared.record.Record.{Record}
-use Rattle.legal_journals.specs.History.{lanes_in}
+use Rattle.legal_journals.specs.History.{lanes_in, format_in}
 
 -- ---- Opens
 
@@ -24,6 +26,19 @@ is_none_but lanes (Some n) = n == lanes
 -- at least one lane and no more than the most, as in each Open before
 abbrev pub has_lanes : ℕ → List Record → Bool
 has_lanes lanes earlier = nat_le 1 lanes && nat_le lanes MOST_LANES && list_all (λ x. is_none_but lanes (lanes_in x)) earlier
+
+-- no format above this one
+abbrev pub is_up_to : Format → Option Format → Bool
+is_up_to f None = true
+is_up_to f (Some g) = nat_le (byte_of_format g) (byte_of_format f)
+
+-- a format not below that of an Open before
+abbrev pub has_format : Format → List Record → Bool
+has_format f earlier = list_all (λ x. is_up_to f (format_in x)) earlier
+
+-- an Open of this format and number of lanes may follow
+abbrev pub may_open : Format → ℕ → List Record → Bool
+may_open f lanes earlier = has_lanes lanes earlier && has_format f earlier
 
 -- a number of lanes among which the identifier's is this one
 abbrev pub puts_into : ℕ → List ℕ → Option ℕ → Bool

@@ -10,7 +10,7 @@ use Rattle.lane_records.specs.declared.outcome.Outcome.{Outcome}
 use Rattle.lane_records.specs.declared.outcome.Outcome.TheVariants.{Finished, Failed}
 use Rattle.lane_records.specs.declared.record.Record.{Record}
 use Rattle.lane_records.specs.declared.record.Record.TheVariants.{LeaderOpen, Accept, Continue, Finish, LeaderClose, HelperOpen, Start, Commit, HelperClose}
-use Rattle.legal_journals.specs.HistoryTests.{is_open, has_lanes, is_of_lane, has_id, same_ids}
+use Rattle.legal_journals.specs.HistoryTests.{is_open, may_open, is_of_lane, has_id, same_ids}
 use Rattle.dap_messages.specs.Jobs.{is_same_job}
 
 -- ---- leader lanes
@@ -57,7 +57,7 @@ may_continue lane n j xs earlier =
 
 -- the record may follow in the journal of a leader's lane
 abbrev pub leader_lane_may : ℕ → Record → List Record → Bool
-leader_lane_may lane (LeaderOpen lanes own) earlier = has_lanes lanes earlier && own == lane && nat_lt lane lanes
+leader_lane_may lane (LeaderOpen f lanes own) earlier = may_open f lanes earlier && own == lane && nat_lt lane lanes
 leader_lane_may lane (Accept r) earlier = is_of_lane lane r.id earlier && not (list_any (accepts r.name r.id) earlier)
 leader_lane_may lane (Continue n j xs) earlier = may_continue lane n j xs earlier
 leader_lane_may lane (Finish j outs) earlier = list_any (continues_with j outs) earlier && not (list_any (finishes_job j) earlier)
@@ -119,7 +119,7 @@ may_start lane j hs earlier = j.lane == lane && list_all (λ x. is_of_lane lane 
 
 -- the record may follow in the journal of a helper's lane
 abbrev pub helper_lane_may : ℕ → Record → List Record → Bool
-helper_lane_may lane (HelperOpen lanes own) earlier = has_lanes lanes earlier && own == lane && nat_lt lane lanes
+helper_lane_may lane (HelperOpen f lanes own) earlier = may_open f lanes earlier && own == lane && nat_lt lane lanes
 helper_lane_may lane (Start j n hs) earlier = may_start lane j hs earlier
 helper_lane_may lane (Commit j outs) earlier = list_any (starts_for j outs earlier) earlier && not (list_any (commits_job j) earlier)
 helper_lane_may lane (HelperClose n s c) earlier = not (list_any (helper_closes n s) earlier)

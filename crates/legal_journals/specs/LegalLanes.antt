@@ -11,7 +11,7 @@ use Rattle.lane_records.specs.declared.outcome.Outcome.TheVariants.{Finished}
 use Rattle.lane_records.specs.declared.closed.Closed.{Closed}
 use Rattle.lane_records.specs.declared.record.Record.{Record}
 use Rattle.lane_records.specs.declared.record.Record.TheVariants.{LeaderOpen, Accept, Continue, Finish, LeaderClose, HelperOpen, Start, Commit, HelperClose}
-use Rattle.legal_journals.specs.History.{Mem, opens, HasLanes, IsOfLane}
+use Rattle.legal_journals.specs.History.{Mem, opens, MayOpen, IsOfLane}
 
 -- ---- leader lanes
 
@@ -41,7 +41,7 @@ IsLeaderClosed n s old = (c : Closed) × Mem (LeaderClose n s c) old
 
 -- the record may follow these in the journal of the leader's lane of this number
 abbrev pub LeaderLaneMay : ℕ → Record → List Record → Type 0
-LeaderLaneMay lane (LeaderOpen lanes own) old = HasLanes lanes old × (own ≡ lane) × (lane < lanes)
+LeaderLaneMay lane (LeaderOpen f lanes own) old = MayOpen f lanes old × (own ≡ lane) × (lane < lanes)
 LeaderLaneMay lane (Accept r) old = IsOfLane lane r.id old × ¬ (WasAccepted r.name r.id old)
 LeaderLaneMay lane (Continue n j xs) old =
     (j.lane ≡ lane) × (j.incarnation ≡ opens old) × ¬ (IsContinued j old)
@@ -82,7 +82,7 @@ IsHelperClosed n s old = (c : Closed) × Mem (HelperClose n s c) old
 
 -- the record may follow these in the journal of the helper's lane of this number
 abbrev pub HelperLaneMay : ℕ → Record → List Record → Type 0
-HelperLaneMay lane (HelperOpen lanes own) old = HasLanes lanes old × (own ≡ lane) × (lane < lanes)
+HelperLaneMay lane (HelperOpen f lanes own) old = MayOpen f lanes old × (own ≡ lane) × (lane < lanes)
 HelperLaneMay lane (Start j n hs) old =
     (j.lane ≡ lane) × ((id : List ℕ) → Mem id (ids_of hs) → IsOfLane lane id old) × ¬ (IsStarted j old)
 HelperLaneMay lane (Commit j outs) old = IsStartedFor j outs old × ¬ (IsCommitted j old)

@@ -11,6 +11,7 @@ pub mod LegalFronts
 pub mod LegalLanes
 pub mod LegalTests
 pub mod Places
+pub mod Ranges
 pub mod Reports
 pub mod Tables
 pub mod Waiting

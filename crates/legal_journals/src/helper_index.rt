@@ -47,8 +47,10 @@ impl HelperIndex {
 
     /// One record more, the newest.
     pub fn push(&mut self, x: &Record) -> Result<(), AllocError>
-        ensures ok { OnOk result ((records : List Record) → HelperIndexes self.old records → HelperIndexes self.new (records ++ x.now ∷ [])) }
-        ensures err { OnErr result ((records : List Record) → HelperIndexes self.old records → HelperIndexes self.new records) }
+        ensures ok { OnOk result ((records : List Record) → HelperIndexes self.old records →
+            HelperIndexes self.new (records ++ x.now ∷ [])) }
+        ensures err { OnErr result
+            ((records : List Record) → HelperIndexes self.old records → HelperIndexes self.new records) }
     {
         let Some(opens) = self.opens.with(x) else {
             return Err(AllocError {});
@@ -82,7 +84,8 @@ impl HelperIndex {
 
     /// Without the newest record, which this is. It takes no memory.
     pub fn take_back(&mut self, x: &Record)
-        ensures { (records : List Record) → HelperIndexes self.old (records ++ x.now ∷ []) → HelperIndexes self.new records }
+        ensures { (records : List Record) → HelperIndexes self.old (records ++ x.now ∷ [])
+            → HelperIndexes self.new records }
     {
         self.opens = self.opens.without(x);
         let place = self.opens.count;
@@ -103,35 +106,40 @@ impl HelperIndex {
 
     /// The place of the job's Start. It takes no memory.
     pub fn started(&self, job: &JobNo) -> Option<usize>
-        ensures { (records : List Record) → HelperIndexes self.now records → result ≡ place_of (starts_job job.now) records }
+        ensures { (records : List Record) → HelperIndexes self.now records
+            → result ≡ place_of (starts_job job.now) records }
     {
         self.started.get(&job_key(job))
     }
 
     /// The name of the job's task. It takes no memory.
     pub fn name(&self, job: &JobNo) -> Option<Name>
-        ensures { (records : List Record) → HelperIndexes self.now records → result ≡ first (name_under job.now) records }
+        ensures { (records : List Record) → HelperIndexes self.now records
+            → result ≡ first (name_under job.now) records }
     {
         self.names.get(&job_key(job))
     }
 
     /// The place of the job's Commit. It takes no memory.
     pub fn committed(&self, job: &JobNo) -> Option<usize>
-        ensures { (records : List Record) → HelperIndexes self.now records → result ≡ place_of (commits_job job.now) records }
+        ensures { (records : List Record) → HelperIndexes self.now records
+            → result ≡ place_of (commits_job job.now) records }
     {
         self.committed.get(&job_key(job))
     }
 
     /// The place of the Commit that finished the report. It takes no memory.
     pub fn finished(&self, name: &Name, id: &Id) -> Option<usize>
-        ensures { (records : List Record) → HelperIndexes self.now records → result ≡ finished_place (name.now, id.now) records }
+        ensures { (records : List Record) → HelperIndexes self.now records →
+            result ≡ finished_place (name.now, id.now) records }
     {
         self.finished.get(&(*name, *id))
     }
 
     /// The place of the batch's Close. It takes no memory.
     pub fn closed(&self, name: &Name, start: u64) -> Option<usize>
-        ensures { (records : List Record) → HelperIndexes self.now records → result ≡ place_of (helper_closes name.now start) records }
+        ensures { (records : List Record) → HelperIndexes self.now records →
+            result ≡ place_of (helper_closes name.now start) records }
     {
         self.closed.get(&(*name, start))
     }

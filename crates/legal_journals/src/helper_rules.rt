@@ -53,8 +53,8 @@ fn helper_lane_may(lane: u8, x: &Record, index: &HelperIndex, earlier: &[Record]
     ensures { result ≡ helper_lane_may lane x.now earlier.now }
 {
     match x {
-        Record::HelperOpen(lanes, own) => {
-            index.opens.has_lanes(*lanes, earlier) && *own == lane && lane < *lanes
+        Record::HelperOpen(format, lanes, own) => {
+            index.opens.may_open(*format, *lanes, earlier) && *own == lane && lane < *lanes
         }
         Record::Start(job, _, halves) => may_start(lane, job, halves.as_slice(), index, earlier),
         Record::Commit(job, outcomes) => {

@@ -44,8 +44,10 @@ impl LeaderIndex {
 
     /// One record more, the newest.
     pub fn push(&mut self, x: &Record) -> Result<(), AllocError>
-        ensures ok { OnOk result ((records : List Record) → LeaderIndexes self.old records → LeaderIndexes self.new (records ++ x.now ∷ [])) }
-        ensures err { OnErr result ((records : List Record) → LeaderIndexes self.old records → LeaderIndexes self.new records) }
+        ensures ok { OnOk result ((records : List Record) → LeaderIndexes self.old records →
+            LeaderIndexes self.new (records ++ x.now ∷ [])) }
+        ensures err { OnErr result
+            ((records : List Record) → LeaderIndexes self.old records → LeaderIndexes self.new records) }
     {
         let place = self.opens.count;
         let Some(opens) = self.opens.with(x) else {
@@ -70,7 +72,8 @@ impl LeaderIndex {
 
     /// Without the newest record, which this is. It takes no memory.
     pub fn take_back(&mut self, x: &Record)
-        ensures { (records : List Record) → LeaderIndexes self.old (records ++ x.now ∷ []) → LeaderIndexes self.new records }
+        ensures { (records : List Record) → LeaderIndexes self.old (records ++ x.now ∷ [])
+            → LeaderIndexes self.new records }
     {
         self.opens = self.opens.without(x);
         let place = self.opens.count;
@@ -88,35 +91,40 @@ impl LeaderIndex {
 
     /// The place of the report's Accept. It takes no memory.
     pub fn accepted(&self, name: &Name, id: &Id) -> Option<usize>
-        ensures { (records : List Record) → LeaderIndexes self.now records → result ≡ place_of (accepts name.now id.now) records }
+        ensures { (records : List Record) → LeaderIndexes self.now records →
+            result ≡ place_of (accepts name.now id.now) records }
     {
         self.accepted.get(&(*name, *id))
     }
 
     /// The place of the Continue in which the report stands. It takes no memory.
     pub fn continued(&self, name: &Name, id: &Id) -> Option<usize>
-        ensures { (records : List Record) → LeaderIndexes self.now records → result ≡ place_of (continues_report name.now id.now) records }
+        ensures { (records : List Record) → LeaderIndexes self.now records →
+            result ≡ place_of (continues_report name.now id.now) records }
     {
         self.continued.get(&(*name, *id))
     }
 
     /// The place of the job's Continue. It takes no memory.
     pub fn job(&self, job: &JobNo) -> Option<usize>
-        ensures { (records : List Record) → LeaderIndexes self.now records → result ≡ place_of (continues_job job.now) records }
+        ensures { (records : List Record) → LeaderIndexes self.now records
+            → result ≡ place_of (continues_job job.now) records }
     {
         self.jobs.get(&job_key(job))
     }
 
     /// The place of the job's Finish. It takes no memory.
     pub fn finished(&self, job: &JobNo) -> Option<usize>
-        ensures { (records : List Record) → LeaderIndexes self.now records → result ≡ place_of (finishes_job job.now) records }
+        ensures { (records : List Record) → LeaderIndexes self.now records
+            → result ≡ place_of (finishes_job job.now) records }
     {
         self.finished.get(&job_key(job))
     }
 
     /// The place of the batch's Close. It takes no memory.
     pub fn closed(&self, name: &Name, start: u64) -> Option<usize>
-        ensures { (records : List Record) → LeaderIndexes self.now records → result ≡ place_of (leader_closes name.now start) records }
+        ensures { (records : List Record) → LeaderIndexes self.now records →
+            result ≡ place_of (leader_closes name.now start) records }
     {
         self.closed.get(&(*name, start))
     }

@@ -50,8 +50,8 @@ fn leader_lane_may(lane: u8, x: &Record, index: &LeaderIndex, earlier: &[Record]
     ensures { result ≡ leader_lane_may lane x.now earlier.now }
 {
     match x {
-        Record::LeaderOpen(lanes, own) => {
-            index.opens.has_lanes(*lanes, earlier) && *own == lane && lane < *lanes
+        Record::LeaderOpen(format, lanes, own) => {
+            index.opens.may_open(*format, *lanes, earlier) && *own == lane && lane < *lanes
         }
         Record::Accept(report) => {
             index.opens.is_of_lane(lane, &report.id, earlier)

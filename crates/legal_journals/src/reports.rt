@@ -80,7 +80,9 @@ pub(crate) fn leave_all<B: Marked>(
     items: &[Tagged<B>],
     place: usize,
 )
-    ensures { (q : Report) → at report_order q table.new ≡ without place (among B.marked name.now items.now q) (at report_order q table.old) }
+    ensures { (q : Report)
+        → at report_order q table.new ≡ without place (among B.marked name.now items.now q)
+        (at report_order q table.old) }
 {
     for x in items {
         if x.body.is_marked() {

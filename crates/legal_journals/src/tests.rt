@@ -4,6 +4,7 @@ use made::{Made, record};
 use std::alloc::Global;
 use std::test::Fail;
 
+mod disks;
 mod drawn;
 mod fronts;
 mod helper_lane;

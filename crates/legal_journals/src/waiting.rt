@@ -31,7 +31,9 @@ impl Waiting {
 
     /// One record more, at this place.
     pub fn push(&mut self, x: &Record, place: usize) -> Result<(), AllocError>
-        ensures ok { OnOk result ((records settled : List Record) → Waits self.old records settled → place ≡ length records → Waits self.new (records ++ x.now ∷ []) settled) }
+        ensures ok { OnOk result
+            ((records settled : List Record) → Waits self.old records settled → place ≡ length records →
+            Waits self.new (records ++ x.now ∷ []) settled) }
         ensures err { OnErr result (self.new ≡ self.old) }
     {
         match x {
@@ -42,7 +44,9 @@ impl Waiting {
 
     /// Without the newest record, which this is, at this place. It takes no memory.
     pub fn take_back(&mut self, x: &Record, place: usize)
-        ensures { (records settled : List Record) → Waits self.old (records ++ x.now ∷ []) settled → place ≡ length records → Waits self.new records settled }
+        ensures { (records settled : List Record) → Waits self.old (records ++ x.now ∷ []) settled
+            → place ≡ length records →
+            Waits self.new records settled }
     {
         if let Record::Accept(report) = x {
             self.reports.leave(&(report.name, place));
@@ -61,7 +65,8 @@ impl Waiting {
     pub fn next(&self, name: &Name, from: usize) -> Option<usize>
         ensures some { (records settled : List Record) → Waits self.now records settled
             → IfSome result (λ p. (from ≤ p) × ((r : Report) × (accept_at p records ≡ Some r) × (r.name ≡ name.now))) }
-        ensures oldest { (records settled : List Record) → Waits self.now records settled → (p : ℕ) (r : Report) → accept_at p records ≡ Some r → r.name ≡ name.now
+        ensures oldest { (records settled : List Record) → Waits self.now records settled → (p : ℕ) (r : Report)
+            → accept_at p records ≡ Some r → r.name ≡ name.now
             → list_any (continues_report r.name r.id) settled ≡ false → from ≤ p → (e : ℕ) × (result ≡ Some e) × (e ≤ p) }
     {
         let Some(entry) = self.reports.next((*name, from)) else {

@@ -1,6 +1,7 @@
 //! Whether a journal is legal, by one walk with its index.
 
-ghost use Rattle.std.specs.Prelude.{◌≡◌, ℕ, ◌++◌, ◌∷◌, [], List, IfOk, OnOk};
+ghost use Rattle.std.specs.Prelude.{◌≡◌, ℕ, ◌++◌, ◌∷◌, [], List, IfOk, IsTrue, OnOk};
+ghost use Rattle.lane_records.specs.Records.{record_};
 ghost use Rattle.dap_bytes.specs.declared.node.Node.{Node};
 ghost use Rattle.dap_bytes.specs.declared.part.Part.{Part};
 ghost use Rattle.lane_records.specs.declared.record.Record.{Record};
@@ -55,11 +56,13 @@ pub(crate) trait PartIndex: Drop {
         requires indexed { indexes self.now earlier.now }
         requires legal { IsLegalJournal node (part lane) earlier.now }
         requires numbered { HaveOneNumber earlier.now }
+        requires allowed { IsTrue (record_.allowed x.now) }
         ensures { result ≡ part_may node (part lane) x.now earlier.now };
 
     /// One record more, the newest.
     fn add(&mut self, x: &Record) -> Result<(), AllocError>
-        ensures { OnOk result ((records : List Record) → indexes self.old records → indexes self.new (records ++ x.now ∷ [])) };
+        ensures { OnOk result
+            ((records : List Record) → indexes self.old records → indexes self.new (records ++ x.now ∷ [])) };
 }
 
 /// The place of the first record that is refused, with the index of no record to begin with.

@@ -7,10 +7,10 @@ use Rattle.std.specs.List.{All, IsDistinct, flat_map, range_with_len}
 use Rattle.std.specs.Str.{bytes_eq}
 use Rattle.dap_bytes.specs.Spans.{one_bucket}
 use Rattle.dap_script.specs.Script.{task_names}
-use Rattle.dap_script.specs.Spelling.{IsInRange, IsOctets, IsScript, SpellsLines, ended, spelling, words_of}
+use Rattle.dap_script.specs.Spelling.{AreWords, IsInRange, IsOctets, IsScript, SpellsLines, ended, spelling, words_of}
 use Rattle.dap_script.specs.declared.line.Line.{Line}
 use Rattle.dap_script.specs.declared.line.Line.TheVariants.{Collect}
-use Rattle.load_maker.specs.Load.{collections, identifier_of, load_lines, load_name, load_task, load_text, measurement, seed_of}
+use Rattle.load_maker.specs.Load.{collections, identifier_of, load_lines, load_name, load_task, load_text, measurement, seed_of, value_of}
 
 -- ---- spelling
 
@@ -55,7 +55,10 @@ seed_is_octets : (seed i : ℕ) → IsOctets (seed_of seed i)
 seed_is_octets seed i = (refl, All-append IsByte (to_be_bytes w64 seed) (to_be_bytes w64 i) (parts_are_bytes 8 seed) (parts_are_bytes 8 i))
 
 measurement_in_range : (seed i : ℕ) → IsInRange (measurement seed i)
-measurement_in_range seed i = (refl, identifier_is_octets i, omega arith, omega arith, seed_is_octets seed i)
+measurement_in_range seed i =
+    let word : value_of seed i < 2 ^ 64 = omega arith in
+    let words : AreWords (value_of seed i ∷ []) = All-cons (λ n. n < 2 ^ 64) (value_of seed i) [] word (All-nil (λ n. n < 2 ^ 64)) in
+    (refl, identifier_is_octets i, omega arith, record { some = omega arith; few = omega arith; words = words }, seed_is_octets seed i)
 
 measurements_in_range : (seed : ℕ) (numbers : List ℕ) → All IsInRange (map (measurement seed) numbers)
 measurements_in_range seed [] = All-nil IsInRange

@@ -34,7 +34,7 @@ seed_of seed i = to_be_bytes w64 seed ++ to_be_bytes w64 i
 
 -- measurement i, from 0
 abbrev pub measurement : ℕ → ℕ → Line
-measurement seed i = Measure load_name (identifier_of i) (time_of i) (value_of seed i) (seed_of seed i)
+measurement seed i = Measure load_name (identifier_of i) (time_of i) (value_of seed i ∷ []) (seed_of seed i)
 
 -- the collections of its two batches, of one bucket each
 abbrev pub collections : List Line

@@ -2,7 +2,7 @@
 use Rattle.std.specs.Prelude.{◌≡◌, ◌≢◌, ◌⊎◌, ◌↔◌, ◌≤◌, ◌<◌, ℕ, ◌+◌, List, [], ◌++◌, map, length, Bool, true, false, None, IsTrue}
 use Rattle.dap_messages.specs.Grammar.{Grammar}
 use Rattle.report_journal.specs.Journal.{Stands}
-use Rattle.report_journal.specs.declared.block.TheConstants.{MAX_BLOCK}
+use Rattle.dap_bytes.specs.declared.limits.TheConstants.{LONGEST_BLOCK}
 use Rattle.report_journal.specs.Log.{LogView, Leaves}
 use Rattle.part_journal.specs.Came.{IsIdle}
 use Rattle.part_journal.specs.Pages.{Pages, begun, done, refused, Restarted, UnderWay}
@@ -66,7 +66,7 @@ module _ {D R : Type 0} where
     pub holds : IsOf g.spell pages log
     pub images : Leaves may_leave log
     pub allowed : IsTrue (g.allowed opener)
-    pub room : 4 + length (g.spell opener) ≤ MAX_BLOCK
+    pub room : 4 + length (g.spell opener) ≤ LONGEST_BLOCK
     pub budget : left ≤ MOST_STOPS
     pub within : opening ≤ length pages.records
     pub idle : IsIdle opener pages

@@ -13,9 +13,10 @@ use crate::fault::{Appended, MOST_STOPS, PartFault, Tried};
 use crate::shelf::Shelf;
 use crate::spelling::{copy_of, spelled, spelled_one};
 use crate::tries::{append_block, settle};
+use dap_bytes::LONGEST_BLOCK;
 use dap_disk::Disk;
 use dap_messages::Spelled;
-use report_journal::{Log, MAX_BLOCK, RestartFault};
+use report_journal::{Log, RestartFault};
 use std::alloc::Global;
 use std::marker::Model;
 
@@ -109,7 +110,8 @@ impl<D: Disk, R: Spelled> PartJournal<D, R> {
         ensures woken { OnOk result (IsTrue self.new.woken) }
         ensures down { self.new.up ≡ false }
         ensures dead { DeadWhere (result ≡ Err PartFault.Stopped) self.old self.new }
-        ensures counts { CountsStops D.downs D.deads (result ≡ Err PartFault.Stopped) (max self.old.left 1) self.new.left self.old.disk self.new.disk }
+        ensures counts { CountsStops D.downs D.deads (result ≡ Err PartFault.Stopped)
+            (max self.old.left 1) self.new.left self.old.disk self.new.disk }
         ensures same { SameOpening self.old self.new }
     {
         self.up = false;
@@ -137,9 +139,13 @@ impl<D: Disk, R: Spelled> PartJournal<D, R> {
         requires fate { self.old.pages.fate ≢ None }
         requires down { self.old.up ≡ false }
         requires left { 0 < self.old.left }
-        ensures done { result ≡ Ok Tried.Done → (self.new.pages ≡ reopened (reopening self.old.opener self.old.pages)) × IsTrue self.new.up × (self.new.left ≡ self.old.left) }
-        ensures stop { result ≡ Ok Tried.Stop → (self.new.pages ≡ reopening self.old.opener self.old.pages) × (self.new.up ≡ false) × (self.new.left ≡ self.old.left - 1) }
-        ensures err { OnErr result ((self.new.pages ≡ self.old.pages) × (self.new.up ≡ false) × (self.new.left ≡ self.old.left)) }
+        ensures done { result ≡ Ok Tried.Done → (self.new.pages ≡ reopened (reopening self.old.opener self.old.pages))
+            × IsTrue self.new.up × (self.new.left ≡ self.old.left) }
+        ensures stop { result ≡ Ok Tried.Stop → (self.new.pages ≡ reopening self.old.opener self.old.pages)
+            × (self.new.up ≡ false)
+            × (self.new.left ≡ self.old.left - 1) }
+        ensures err { OnErr result
+            ((self.new.pages ≡ self.old.pages) × (self.new.up ≡ false) × (self.new.left ≡ self.old.left)) }
         ensures memory { result ≢ Err PartFault.Stopped }
         ensures dead { self.new.dead ≡ self.old.dead }
         ensures counts { CountsStop D.downs D.deads (result ≡ Ok Tried.Stop) self.old.disk self.new.disk }
@@ -176,9 +182,11 @@ impl<D: Disk, R: Spelled> PartJournal<D, R> {
         requires up { IsTrue self.old.up }
         requires some { 0 < length block.items }
         requires allowed { IsTrue (list_all R.grammar.allowed block.items) }
-        requires size { length (body (map R.grammar.spell block.items)) ≤ MAX_BLOCK }
+        requires size { length (body (map R.grammar.spell block.items)) ≤ LONGEST_BLOCK }
         ensures done { result ≡ Ok Tried.Done → IsDone block.items self.old self.new }
-        ensures stop { result ≡ Ok Tried.Stop → (self.new.pages ≡ begun block.items self.old.pages) × (self.new.up ≡ false) × (self.new.left ≡ self.old.left - 1) }
+        ensures stop { result ≡ Ok Tried.Stop → (self.new.pages ≡ begun block.items self.old.pages)
+            × (self.new.up ≡ false)
+            × (self.new.left ≡ self.old.left - 1) }
         ensures err { OnErr result (IsRefused self.old self.new) }
         ensures memory { result ≢ Err PartFault.Stopped }
         ensures dead { self.new.dead ≡ self.old.dead }
@@ -218,10 +226,12 @@ impl<D: Disk, R: Spelled> PartJournal<D, R> {
         requires fate { self.old.pages.fate ≢ None }
         requires down { self.old.up ≡ false }
         requires left { 0 < self.old.left }
-        ensures ok { OnOk result (IsTrue self.new.up × IsBack self.old.opener (reopening self.old.opener self.old.pages) self.new.pages) }
+        ensures ok { OnOk result (IsTrue self.new.up
+            × IsBack self.old.opener (reopening self.old.opener self.old.pages) self.new.pages) }
         ensures err { OnErr result ((self.new.up ≡ false) × Opening self.old.opener self.old.pages self.new.pages) }
         ensures dead { DeadWhere (result ≡ Err PartFault.Stopped) self.old self.new }
-        ensures counts { CountsStops D.downs D.deads (result ≡ Err PartFault.Stopped) self.old.left self.new.left self.old.disk self.new.disk }
+        ensures counts { CountsStops D.downs D.deads
+            (result ≡ Err PartFault.Stopped) self.old.left self.new.left self.old.disk self.new.disk }
         ensures same { SameOpening self.old self.new }
     {
         'tries: loop {
@@ -240,7 +250,7 @@ impl<D: Disk, R: Spelled> PartJournal<D, R> {
         }
     }
 
-    /// Appends a block of records, at least one, and `MAX_BLOCK` bytes at most with the four of each record's length.
+    /// Appends a block of records, at least one, and `LONGEST_BLOCK` bytes at most with the four of each record's length.
     /// After a stop the disk is restarted until the journal is back with an Open; a block that is lost isn't tried
     /// again. Where memory runs out before a stop all is as it was; where it runs out on the way back, and after
     /// `Stopped`, the journal is down.
@@ -248,18 +258,21 @@ impl<D: Disk, R: Spelled> PartJournal<D, R> {
         requires up { IsTrue self.old.up }
         requires some { 0 < length block.items }
         requires allowed { IsTrue (list_all R.grammar.allowed block.items) }
-        requires size { length (body (map R.grammar.spell block.items)) ≤ MAX_BLOCK }
+        requires size { length (body (map R.grammar.spell block.items)) ≤ LONGEST_BLOCK }
 
         ensures done { result ≡ Ok Appended.Done → IsDone block.items self.old self.new }
         ensures kept { result ≡ Ok Appended.Kept → ComesBack true block.items self.old self.new }
         ensures lost { result ≡ Ok Appended.Lost → ComesBack false block.items self.old self.new }
-        ensures memory { result ≡ Err PartFault.NoMemory → IsRefused self.old self.new ⊎ StaysDown (begun block.items self.old.pages) self.old self.new }
-        ensures stopped { result ≡ Err PartFault.Stopped → StaysDown (begun block.items self.old.pages) self.old self.new }
+        ensures memory { result ≡ Err PartFault.NoMemory → IsRefused self.old self.new
+            ⊎ StaysDown (begun block.items self.old.pages) self.old self.new }
+        ensures stopped { result ≡ Err PartFault.Stopped
+            → StaysDown (begun block.items self.old.pages) self.old self.new }
 
         // On every answer.
         ensures came { Came self.old.opener (begun block.items self.old.pages) self.new.pages }
         ensures dead { DeadWhere (result ≡ Err PartFault.Stopped) self.old self.new }
-        ensures counts { CountsStops D.downs D.deads (result ≡ Err PartFault.Stopped) self.old.left self.new.left self.old.disk self.new.disk }
+        ensures counts { CountsStops D.downs D.deads
+            (result ≡ Err PartFault.Stopped) self.old.left self.new.left self.old.disk self.new.disk }
         ensures same { SameOpening self.old self.new }
     {
         let _up = self.up();
@@ -286,13 +299,15 @@ impl<D: Disk, R: Spelled> PartJournal<D, R> {
     /// Restarts the disk until the journal is back with an Open. What became of a block in hand is known then. After a
     /// refusal it is down; a restart may be tried again, and it may meet one stop though none is left.
     pub fn restart(&mut self, alloc: Global) -> Result<(), PartFault>
-        ensures ok { OnOk result (IsTrue self.new.up × ((kept : Bool) × Restarted self.old.opener kept self.old.pages self.new.pages)) }
+        ensures ok { OnOk result (IsTrue self.new.up
+            × ((kept : Bool) × Restarted self.old.opener kept self.old.pages self.new.pages)) }
         ensures err { OnErr result (StaysDown self.old.pages self.old self.new) }
 
         // On every answer.
         ensures came { Came self.old.opener self.old.pages self.new.pages }
         ensures dead { DeadWhere (result ≡ Err PartFault.Stopped) self.old self.new }
-        ensures counts { CountsStops D.downs D.deads (result ≡ Err PartFault.Stopped) (max self.old.left 1) self.new.left self.old.disk self.new.disk }
+        ensures counts { CountsStops D.downs D.deads (result ≡ Err PartFault.Stopped)
+            (max self.old.left 1) self.new.left self.old.disk self.new.disk }
         ensures same { SameOpening self.old self.new }
     {
         let _up = self.up();
@@ -332,16 +347,20 @@ impl<D: Disk, R: Spelled> PartJournal<D, R> {
         requires rest { log.coming ≡ [] }
         requires records { log.records ≡ map R.grammar.spell records.items }
         requires allowed { IsTrue (R.grammar.allowed opener) }
-        requires room { 4 + length (R.grammar.spell opener) ≤ MAX_BLOCK }
+        requires room { 4 + length (R.grammar.spell opener) ≤ LONGEST_BLOCK }
 
-        ensures ok { IfOk result (λ j. IsTrue j.up × IsBack opener (reopening opener (first_pages records.items)) j.pages) }
+        ensures ok { IfOk result
+            (λ j. IsTrue j.up × IsBack opener (reopening opener (first_pages records.items)) j.pages) }
         ensures came { IfOk result (λ j. Came opener (first_pages records.items) j.pages) }
-        ensures begins { IfOk result (λ j. (j.opener ≡ opener) × (j.opening ≡ length records.items) × (j.dead ≡ false)) }
+        ensures begins { IfOk result
+            (λ j. (j.opener ≡ opener) × (j.opening ≡ length records.items) × (j.dead ≡ false)) }
         ensures counts { IfOk result (λ j. CountsStops D.downs D.deads ⊥ MOST_STOPS j.left log.disk j.disk) }
 
-        ensures err { IfErr result (λ e. (q : Pages R) × Opening opener (first_pages records.items) q × IsOf R.grammar.spell q e.log) }
+        ensures err { IfErr result (λ e. (q : Pages R) × Opening opener (first_pages records.items) q
+            × IsOf R.grammar.spell q e.log) }
         ensures images { IfErr result (λ e. Leaves D.may_leave e.log) }
-        ensures counts_err { IfErr result (λ e. (left : ℕ) × CountsStops D.downs D.deads (e.fault ≡ PartFault.Stopped) MOST_STOPS left log.disk e.log.disk) }
+        ensures counts_err { IfErr result (λ e. (left : ℕ)
+            × CountsStops D.downs D.deads (e.fault ≡ PartFault.Stopped) MOST_STOPS left log.disk e.log.disk) }
     {
         let _up = log.up();
         let opening = records.len();

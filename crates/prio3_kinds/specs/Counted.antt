@@ -4,6 +4,6 @@ use Rattle.vdaf_api.specs.Functions.{Functions, Parts}
 use Rattle.vdaf_api.specs.Verdict.{opened, verdict, numbers_of}
 
 -- each honest fair report of this measurement is prepared, and its content is this vector
-abbrev pub IsCountedAs : Functions → ℕ → List ℕ → Type 0
-IsCountedAs f m v = (key id seed : List ℕ) (p : Parts) → length key ≡ 16 → length id ≡ 16 → length seed ≡ 16
-    → f.shard id m seed ≡ Some p → f.is_fair key id ≡ true → numbers_of f (verdict f (opened key id p)) ≡ Some v
+abbrev pub IsCountedAs : Functions → List ℕ → List ℕ → Type 0
+IsCountedAs f ms v = (key id seed : List ℕ) (p : Parts) → length key ≡ 16 → length id ≡ 16 → length seed ≡ 16
+    → f.shard id ms seed ≡ Some p → f.is_fair key id ≡ true → numbers_of f (verdict f (opened key id p)) ≡ Some v

@@ -1,6 +1,6 @@
-//! Prio3 with two shares (draft-irtf-cfrg-vdaf-03) for each kind of measurement: counts over the small field, sums and
-//! histograms over the large one. The layer above uses [`Prio3`] through the trait `Vdaf`, and `functions_of_kind`,
-//! which is what the calls compute.
+//! Prio3 with two shares (draft-irtf-cfrg-vdaf-03) for each kind of measurement: counts over the small field, sums,
+//! histograms and vectors over the large one. The layer above uses [`Prio3`] through the traits `Vdaf` and `ListVdaf`,
+//! and `functions_of_kind`, which is what the calls compute.
 #![tactic(auto)]
 
 mod laws;
@@ -9,7 +9,7 @@ mod prio3;
 
 pub use laws::{
     accepted_reports_are_decided, answers_are_their_vectors, honest_reports_count_themselves,
-    measurements_have_their_vectors,
+    measurements_are_of_their_kind, measurements_have_their_vectors,
 };
 pub use prio3::Prio3;
 

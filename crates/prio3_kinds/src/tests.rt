@@ -11,8 +11,8 @@ use std::alloc::{AllocError, Global};
 use std::process::Abort;
 use std::test::Fail;
 use vdaf_api::{
-    Answer, Bounds, Collected, Kind, Numbers, PrepFault, Role, ShardFault, Shares, Step, Toy,
-    ToyPrep, Vdaf,
+    Answer, Bounds, Collected, Kind, ListVdaf, Numbers, PrepFault, Role, ShardFault, Shares, Step,
+    Toy, ToyPrep, Vdaf,
 };
 
 /// The identifier of every report here, and the seed.
@@ -28,14 +28,14 @@ fn tag(bytes: &[u8]) -> u128 {
 
 /// The answer of one report, by the trait's calls alone, where its parts have these tags: those of the public share,
 /// both input shares, both prep shares, the prep message and both out shares, the leader's first. Without tags any do.
-fn answered<V: Vdaf>(
+fn answered<V: ListVdaf>(
     rt: &impl Abort,
     alloc: Global,
     v: &V,
-    m: u64,
+    m: &[u64],
     tags: Option<[u128; 8]>,
 ) -> Result<Answer, Fail> {
-    let shares = v.shard(alloc, &ONE, m, &ONE).expect(rt, "shares");
+    let shares = v.shard_list(alloc, &ONE, m, &ONE).expect(rt, "shares");
     let public = shares.public.as_slice();
     let (leader, ours) = v
         .init(
@@ -77,7 +77,7 @@ fn answered<V: Vdaf>(
         tag(&other),
     ];
     if let Some(tags) = tags {
-        assert_eq!(rt; seen, tags, "measurement {m}");
+        assert_eq!(rt; seen, tags, "a measurement of {} numbers", m.len());
     }
     counted(rt, alloc, v, &out, &other)
 }
@@ -140,7 +140,7 @@ fn each_step_of_a_count_is_the_references(rt: HostRuntime) -> Result<(), Fail> {
         0x5c04157f165a9801f8522b603dd633a5,
         0x006744762b09b78f1579add216a5a3e5,
     ];
-    let answer = answered(&rt, alloc, &count, 1, Some(tags))?;
+    let answer = answered(&rt, alloc, &count, &[1], Some(tags))?;
     assert!(rt; answer == Answer::Count(1));
     assert!(rt; matches!(count.shard(alloc, &ONE, 2, &ONE), Err(ShardFault::BadValue)));
     let shares = count.shard(alloc, &ONE, 1, &ONE).expect(&rt, "shares");
@@ -177,7 +177,7 @@ fn each_step_of_a_sum_is_the_references(rt: HostRuntime) -> Result<(), Fail> {
     ];
     for (bits, m, tags) in [(8, 200, small), (64, u64::MAX, large)] {
         let sum = function(&rt, alloc, Kind::Sum { bits })?;
-        let answer = answered(&rt, alloc, &sum, m, Some(tags))?;
+        let answer = answered(&rt, alloc, &sum, &[m], Some(tags))?;
         assert!(rt; answer == Answer::Sum(u128::from(m)));
     }
     let sum = function(&rt, alloc, Kind::Sum { bits: 8 })?;
@@ -229,9 +229,167 @@ fn each_step_of_a_histogram_is_the_references(rt: HostRuntime) -> Result<(), Fai
             wanted.push(u128::from(i == place))?;
         }
         let histogram = function(&rt, alloc, Kind::Histogram { bounds })?;
-        let answer = answered(&rt, alloc, &histogram, m, Some(tags))?;
+        let answer = answered(&rt, alloc, &histogram, &[m], Some(tags))?;
         assert!(rt; answer == Answer::Histogram(Numbers::new(wanted)));
     }
+    Ok(())
+}
+
+/// The greatest number of so many bits, the next lower one, and so on down to 0, and then the greatest again.
+fn falling(alloc: Global, len: u16, greatest: u64) -> Result<Vec<u64>, AllocError> {
+    let mut list = Vec::new(alloc);
+    for i in 0..u64::from(len) {
+        list.push(greatest & !i)?;
+    }
+    Ok(list)
+}
+
+/// A report of a list has the reference's parts, and its answer is the list.
+fn check_vector(
+    rt: &impl Abort,
+    alloc: Global,
+    kind: Kind,
+    list: &[u64],
+    tags: [u128; 8],
+) -> Result<(), Fail> {
+    let vector = function(rt, alloc, kind)?;
+    let answer = answered(rt, alloc, &vector, list, Some(tags))?;
+    let mut wanted = Vec::new(alloc);
+    for number in list {
+        wanted.push(u128::from(*number))?;
+    }
+    assert!(rt;
+        answer == Answer::Vector(Numbers::new(wanted)),
+        "{} numbers",
+        list.len()
+    );
+    Ok(())
+}
+
+#[test]
+fn each_step_of_a_vector_is_the_references(rt: HostRuntime) -> Result<(), Fail> {
+    let alloc = rt.alloc();
+    let three = [
+        0x12135276ce8f9377ae693e0bb5256903,
+        0xb3c339e548cc51d6d4b3d1203e88a4cf,
+        0x10b4c08f63cf845fec127c61c6ed7423,
+        0xbd87dfeea1cbf3f265be41d1de48a2f9,
+        0xce5296c0dad8de51f2592f89fe05fece,
+        0x5b50ad3a697ad47001d22288dbb8cf6e,
+        0xff68fe674c5b459648ff95e42250885a,
+        0xe9273f7c46f03114f4d09c69d03af08e,
+    ];
+    let one = [
+        0x850d2a747c8f6efdc4e77ffcfdf44e83,
+        0x12005bd8e932e8779ad7ac6e031a4d88,
+        0x10b4c08f63cf845fec127c61c6ed7423,
+        0x4239ad83e271277d34b65ae456b79598,
+        0x537e058067bf01322e0decc00a9d89bf,
+        0xa5f434bff57ef796cf1a3df0573ab8e7,
+        0xde8c792562fa9cc07df25b41ba201697,
+        0x8e0a97a186ab180d6179e3c48508a1ba,
+    ];
+    let kind = Kind::Vector { len: 3, bits: 8 };
+    check_vector(&rt, alloc, kind, &[1, 2, 3], three)?;
+    let kind = Kind::Vector { len: 1, bits: 32 };
+    check_vector(&rt, alloc, kind, &[4_294_967_295], one)
+}
+
+// 1,024 numbers of one bit, 63 of 32 bits, and 89 of 23 bits, which have 2,047 bits together.
+#[test]
+fn the_largest_vectors_are_the_references(rt: HostRuntime) -> Result<(), Fail> {
+    let alloc = rt.alloc();
+    let most_numbers = [
+        0xd42dded7123e0a474122a13d8ef5e22f,
+        0x48644ee2a3020d79d92b1d627108fd5a,
+        0x10b4c08f63cf845fec127c61c6ed7423,
+        0xba8542b93df832c6a93fbb3d91b5f8c5,
+        0x2cc87fccbe99c49a443278321f10dc5b,
+        0x8ee9bc1845234313647b9a7da0752bca,
+        0xa834920dfb88442d4399a9d977bd5c07,
+        0xf3beec92988cace816836c3c47184991,
+    ];
+    let widest_numbers = [
+        0x77e72f442f00d2d0147ce64bd354b69f,
+        0x940e7acc6533dca09dd28ab055226ce6,
+        0x10b4c08f63cf845fec127c61c6ed7423,
+        0x6cabe824c6200757ccf61d4152d263fe,
+        0xf80942d10dba6c5f51315f6149466f43,
+        0x85cd45e97ffd794b036dd9418141b1d8,
+        0xebe171b77ee35294592b90799b629c15,
+        0x2e329510d0393079f4d754305b7da6aa,
+    ];
+    let most_bits = [
+        0xc56e74f03d0cc5c3ecfae01e838a25ad,
+        0x0a386d1b85a7dcfeff21852d9a07b61f,
+        0x10b4c08f63cf845fec127c61c6ed7423,
+        0x970d636d0a1042b52185573b97b6fc02,
+        0x42073f51e573c53f125b3a987dceb66b,
+        0xec56946b86d14aa3485098a564d73c1d,
+        0x8b2531b7d0a8dcf9fdd0728fc11693a4,
+        0x413ccd0b124c71605eb52420e1114513,
+    ];
+    for (len, bits, greatest, tags) in [
+        (1024, 1, 1, most_numbers),
+        (63, 32, 4_294_967_295, widest_numbers),
+        (89, 23, 8_388_607, most_bits),
+    ] {
+        let list = falling(alloc, len, greatest)?;
+        check_vector(&rt, alloc, Kind::Vector { len, bits }, &list, tags)?;
+    }
+    Ok(())
+}
+
+// A vector takes lists of its length of numbers of its bits; the other kinds take lists of one number of the kind.
+#[test]
+fn each_kind_has_its_lists(rt: HostRuntime) -> Result<(), Fail> {
+    let alloc = rt.alloc();
+    let count = function(&rt, alloc, Kind::Count)?;
+    let sum = function(&rt, alloc, Kind::Sum { bits: 3 })?;
+    let bounds = Bounds::new([10].to_vec(alloc)?);
+    let histogram = function(&rt, alloc, Kind::Histogram { bounds })?;
+    let one = function(&rt, alloc, Kind::Vector { len: 1, bits: 3 })?;
+    let two = function(&rt, alloc, Kind::Vector { len: 2, bits: 3 })?;
+    for (list, taken) in [
+        ([].as_slice(), [false, false, false, false, false]),
+        ([1].as_slice(), [true, true, true, true, false]),
+        ([2].as_slice(), [false, true, true, true, false]),
+        ([7].as_slice(), [false, true, true, true, false]),
+        ([8].as_slice(), [false, false, true, false, false]),
+        ([1, 0].as_slice(), [false, false, false, false, true]),
+        ([7, 7].as_slice(), [false, false, false, false, true]),
+        ([8, 0].as_slice(), [false, false, false, false, false]),
+        ([0, 8].as_slice(), [false, false, false, false, false]),
+        ([1, 0, 0].as_slice(), [false, false, false, false, false]),
+    ] {
+        let functions = [&count, &sum, &histogram, &one, &two];
+        for (v, taken) in functions.iter().zip(taken.iter()) {
+            let shares = v.shard_list(alloc, &ONE, list, &ONE);
+            let known = !matches!(shares, Err(ShardFault::BadValue));
+            assert_eq!(rt; known, *taken, "list of {}", list.len());
+        }
+    }
+    Ok(())
+}
+
+// The shares of a number are those of the list of it.
+#[test]
+fn a_number_is_a_list_of_one(rt: HostRuntime) -> Result<(), Fail> {
+    let alloc = rt.alloc();
+    let bounds = Bounds::new([10].to_vec(alloc)?);
+    for kind in [
+        Kind::Count,
+        Kind::Sum { bits: 3 },
+        Kind::Histogram { bounds },
+        Kind::Vector { len: 1, bits: 3 },
+    ] {
+        let v = function(&rt, alloc, kind)?;
+        let number = v.shard(alloc, &ONE, 1, &ONE).expect(&rt, "shares");
+        let list = v.shard_list(alloc, &ONE, &[1], &ONE).expect(&rt, "shares");
+        assert!(rt; number == list);
+    }
+    let two = function(&rt, alloc, Kind::Vector { len: 2, bits: 3 })?;
+    assert!(rt; matches!(two.shard(alloc, &ONE, 1, &ONE), Err(ShardFault::BadValue)));
     Ok(())
 }
 
@@ -293,7 +451,7 @@ fn each_bucket_has_its_numbers(rt: HostRuntime) -> Result<(), Fail> {
     ] {
         let bounds = Bounds::new([10, 20, 30].to_vec(alloc)?);
         let histogram = function(&rt, alloc, Kind::Histogram { bounds })?;
-        let answer = answered(&rt, alloc, &histogram, m, None)?;
+        let answer = answered(&rt, alloc, &histogram, &[m], None)?;
         let mut wanted = Vec::new(alloc);
         for i in 0..4 {
             wanted.push(u128::from(i == place))?;
@@ -375,12 +533,13 @@ fn a_changed_byte_is_refused(rt: HostRuntime) -> Result<(), Fail> {
     let alloc = rt.alloc();
     let bounds = Bounds::new([10, 20, 30].to_vec(alloc)?);
     for (kind, m) in [
-        (Kind::Count, 1),
-        (Kind::Sum { bits: 8 }, 200),
-        (Kind::Histogram { bounds }, 20),
+        (Kind::Count, [1].as_slice()),
+        (Kind::Sum { bits: 8 }, [200].as_slice()),
+        (Kind::Histogram { bounds }, [20].as_slice()),
+        (Kind::Vector { len: 2, bits: 3 }, [6, 1].as_slice()),
     ] {
         let v = function(&rt, alloc, kind)?;
-        let shares = v.shard(alloc, &ONE, m, &ONE).expect(&rt, "shares");
+        let shares = v.shard_list(alloc, &ONE, m, &ONE).expect(&rt, "shares");
         check_changes(&rt, alloc, &v, &shares)?;
     }
     Ok(())
@@ -396,7 +555,7 @@ fn the_toy_function_is_called_by_the_same_code(rt: HostRuntime) -> Result<(), Fa
         0x49920a3d19cb8c62032b34bce702735f,
     );
     let tags = [empty, five, zero, empty, empty, empty, five, zero];
-    let answer = answered(&rt, alloc, &toy, 5, Some(tags))?;
+    let answer = answered(&rt, alloc, &toy, &[5], Some(tags))?;
     assert!(rt; answer == Answer::Sum(5));
     Ok(())
 }

@@ -57,9 +57,9 @@ module _ {F : Type 0} {b : Base F} (laws : BaseLaws b) (c : Shape F) (keeps : Sh
   some_point (Some t) e = (t, refl)
   some_point None e = absurd (cc)
 
-  pub both_start : (verify id seed : List ℕ) (m : ℕ) (x : List F) (p : Parts) → c.encode m ≡ Some x → sharing b c kind id x seed ≡ Some p → is_fair b c kind verify id ≡ true → BothStart b c kind verify id x p
-  both_start verify id seed m x p enc shares fair =
-      let hx : length x ≡ c.input_len = codes.length-encode m x enc in
+  pub both_start : (verify id seed ms : List ℕ) (x : List F) (p : Parts) → c.encode ms ≡ Some x → sharing b c kind id x seed ≡ Some p → is_fair b c kind verify id ≡ true → BothStart b c kind verify id x p
+  both_start verify id seed ms x p enc shares fair =
+      let hx : length x ≡ c.input_len = codes.length-encode ms x enc in
       let s : Split b c kind id seed x p = split laws c keeps kind id seed x p hx shares in
       let a : AddTo b c kind id seed x p = s.adds in
       let point = some_point (point_of b c kind verify id) fair in
@@ -81,7 +81,7 @@ module _ {F : Type 0} {b : Base F} (laws : BaseLaws b) (c : Shape F) (keeps : Sh
       let w : List F = verifier b c kind a.helper s.r t in
       let shared : add_polynomials b.ring a.leader.proof a.helper.proof ≡ proof_of b.ring b.half b.root c (add_polynomials b.ring a.leader.x a.helper.x) a.wire_seeds =
       a.proofs ∙ ap (λ y. proof_of b.ring b.half b.root c y a.wire_seeds) (sym a.inputs) in
-      let valid : IsValid b.ring c (add_polynomials b.ring a.leader.x a.helper.x) s.r = subst (λ y. IsValid b.ring c y s.r) (sym a.inputs) (codes.encode-valid m x s.r enc hr) in
+      let valid : IsValid b.ring c (add_polynomials b.ring a.leader.x a.helper.x) s.r = subst (λ y. IsValid b.ring c y s.r) (sym a.inputs) (codes.encode-valid ms x s.r enc hr) in
       let decided : accepts b c kind (add_polynomials b.ring v w) ≡ true =
       accepted b c kind (add_polynomials b.ring v w) (complete laws.laws b.half b.root laws.halves laws.roots c keeps a.leader.x a.helper.x a.leader.proof a.helper.proof a.wire_seeds s.r t sizes_l.x sizes_h.x hr hs shared valid) in
       let combined : combine b c kind (bytes_of b v ++ if_joint c left) (bytes_of b w ++ if_joint c right) ≡ Some (if_joint c (joint_seed kind (if_joint c left) (if_joint c right))) =
@@ -106,14 +106,14 @@ module _ {F : Type 0} {b : Base F} (laws : BaseLaws b) (c : Shape F) (keeps : Sh
       }
 
   -- the law on bytes
-  pub honest : (answer : List ℕ → Answer) → (verify id seed : List ℕ) (m : ℕ) (p : Parts) → SpaceLaws (space_of b c) → shard b c kind id m seed ≡ Some p → is_fair b c kind verify id ≡ true
-      → numbers_of (functions_of b c kind answer) (verdict (functions_of b c kind answer) (opened verify id p)) ≡ encoding b c kind m
+  pub honest : (answer : List ℕ → Answer) → (verify id seed ms : List ℕ) (p : Parts) → SpaceLaws (space_of b c) → shard b c kind id ms seed ≡ Some p → is_fair b c kind verify id ≡ true
+      → numbers_of (functions_of b c kind answer) (verdict (functions_of b c kind answer) (opened verify id p)) ≡ encoding b c kind ms
   unfolding shard
-  honest answer verify id seed m p space shares fair =
+  honest answer verify id seed ms p space shares fair =
       let f : Functions = functions_of b c kind answer in
-      let one = bind-some (c.encode m) (λ x. sharing b c kind id x seed) p shares in
+      let one = bind-some (c.encode ms) (λ x. sharing b c kind id x seed) p shares in
       let x : List F = one.0 in
-      let h : BothStart b c kind verify id x p = both_start verify id seed m x p one.1 one.2 fair in
+      let h : BothStart b c kind verify id x p = both_start verify id seed ms x p one.1 one.2 fair in
       let lo : List ℕ = bytes_of b (c.truncate h.x_leader) in
       let ho : List ℕ = bytes_of b (c.truncate h.x_helper) in
       let out_l : out_of b c kind Leader verify id p.public p.leader h.message ≡ Some lo =

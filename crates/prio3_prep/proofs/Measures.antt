@@ -44,9 +44,9 @@ module _ {F : Type 0} {b : Base F} (laws : BaseLaws b) (c : Shape F) (keeps : Sh
     few_entries = let m : c.out_len * b.width ≤ 1024 * 16 = mul-le-mul codes.few_out laws.few_bytes in omega arith;
   }
 
-  pub honest_laws : (answer : List ℕ → Answer) (verify id seed : List ℕ) (m : ℕ) (p : Parts) → shard b c kind id m seed ≡ Some p → is_fair b c kind verify id ≡ true
-      → numbers_of (functions_of b c kind answer) (verdict (functions_of b c kind answer) (opened verify id p)) ≡ encoding b c kind m
-  honest_laws answer verify id seed m p = honest laws c keeps codes kind answer verify id seed m p space_laws
+  pub honest_laws : (answer : List ℕ → Answer) (verify id seed ms : List ℕ) (p : Parts) → shard b c kind id ms seed ≡ Some p → is_fair b c kind verify id ≡ true
+      → numbers_of (functions_of b c kind answer) (verdict (functions_of b c kind answer) (opened verify id p)) ≡ encoding b c kind ms
+  honest_laws answer verify id seed ms p = honest laws c keeps codes kind answer verify id seed ms p space_laws
 
   parts_short : (id seed : List ℕ) (x : List F) (p : Parts) → length x ≡ c.input_len → x_bytes b c kind + proof_bytes b c kind + 16 ≤ MOST_LEADER → sharing b c kind id x seed ≡ Some p → PartsAreShort p
   parts_short id seed x p hx small e =
@@ -93,25 +93,25 @@ module _ {F : Type 0} {b : Base F} (laws : BaseLaws b) (c : Shape F) (keeps : Sh
       let here : out ≡ bytes_of b v = sym is ∙ ap (λ (s : Started). s.out) g.is in
       (map b.number v, ap (vector (space_of b c)) here ∙ vector-bytes laws c.out_len v size)
 
-  encoding_is : (m : ℕ) (v : List ℕ) → encoding b c kind m ≡ Some v → (length v ≡ c.out_len) × Below b.modulus v
-  encoding_is m v e =
-      let one = bind-some (c.encode m) (λ x. Some (map b.number (c.truncate x))) v e in
+  encoding_is : (ms v : List ℕ) → encoding b c kind ms ≡ Some v → (length v ≡ c.out_len) × Below b.modulus v
+  encoding_is ms v e =
+      let one = bind-some (c.encode ms) (λ x. Some (map b.number (c.truncate x))) v e in
       let some : Some (map b.number (c.truncate one.0)) ≡ Some v = one.2 in
       let is : map b.number (c.truncate one.0) ≡ v = cc in
-      subst (λ v. (length v ≡ c.out_len) × Below b.modulus v) is (length-map (c.truncate one.0) b.number ∙ codes.length-truncate one.0 (codes.length-encode m one.0 one.1), below-numbers laws (c.truncate one.0))
+      subst (λ v. (length v ≡ c.out_len) × Below b.modulus v) is (length-map (c.truncate one.0) b.number ∙ codes.length-truncate one.0 (codes.length-encode ms one.0 one.1), below-numbers laws (c.truncate one.0))
 
   -- a leader's share has to be short, which is the circuit's affair: the laws of circuits alone allow longer ones
   pub prio_laws : (answer : List ℕ → Answer) → x_bytes b c kind + proof_bytes b c kind + 16 ≤ MOST_LEADER → FunctionLaws (functions_of b c kind answer)
   unfolding shard
   prio_laws answer small = record {
     space = space_laws;
-    parts = λ id m seed p e. let one = bind-some (c.encode m) (λ x. sharing b c kind id x seed) p e in parts_short id seed one.0 p (codes.length-encode m one.0 one.1) small one.2;
+    parts = λ id ms seed p e. let one = bind-some (c.encode ms) (λ x. sharing b c kind id x seed) p e in parts_short id seed one.0 p (codes.length-encode ms one.0 one.1) small one.2;
     share = share_short;
     message = message_short;
     halves = λ role key id public input share e. let one = bind-some (start b c kind role key id public input) (λ s. Some s.share) share e in start-form b c kind role key id public input one.0 one.1;
     shares = message-form b c kind;
     out = out_is;
     encoding = encoding_is;
-    measured = λ id m seed p hi hs e. let one = bind-some (c.encode m) (λ x. sharing b c kind id x seed) p e in (map b.number (c.truncate one.0), ap (option_and_then (λ x. Some (map b.number (c.truncate x)))) one.1);
-    honest = λ key id m seed p hk hi hs. honest_laws answer key id seed m p;
+    measured = λ id ms seed p hi hs e. let one = bind-some (c.encode ms) (λ x. sharing b c kind id x seed) p e in (map b.number (c.truncate one.0), ap (option_and_then (λ x. Some (map b.number (c.truncate x)))) one.1);
+    honest = λ key id ms seed p hk hi hs. honest_laws answer key id seed ms p;
   }

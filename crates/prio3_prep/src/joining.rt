@@ -37,7 +37,8 @@ fn message_of<C: Circuit>(
 ) -> Result<Vec<u8>, AllocError>
     requires leader { verifier_bytes ⟦<C::F as Based>⟧.base (C.shape c.now) kind ≤ length leader.now }
     requires helper { verifier_bytes ⟦<C::F as Based>⟧.base (C.shape c.now) kind ≤ length helper.now }
-    ensures { IfOk result (λ v. v.items ≡ message_of ⟦<C::F as Based>⟧.base (C.shape c.now) kind leader.now helper.now) }
+    ensures { IfOk result
+        (λ v. v.items ≡ message_of ⟦<C::F as Based>⟧.base (C.shape c.now) kind leader.now helper.now) }
 {
     if c.joint_len() == 0 {
         return Ok(Vec::new(alloc));

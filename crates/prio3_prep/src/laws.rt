@@ -20,12 +20,12 @@ use prio3_share::Based;
 /// A law: the verdict on an honest report of two shares is ok, and its content is the truncated encoding of the
 /// measurement, wherever the drawing of the query point has a value that is no P-th root of one.
 pub fn honest_reports_are_accepted<C: Circuit>(c: &C, kind: u8)
-    ensures honest { (answer : List ℕ → Answer) (verify id seed : List ℕ) (m : ℕ) (p : Parts)
-        → shard ⟦<C::F as Based>⟧.base (C.shape c.now) kind id m seed ≡ Some p
+    ensures honest { (answer : List ℕ → Answer) (verify id seed ms : List ℕ) (p : Parts)
+        → shard ⟦<C::F as Based>⟧.base (C.shape c.now) kind id ms seed ≡ Some p
         → is_fair ⟦<C::F as Based>⟧.base (C.shape c.now) kind verify id ≡ true
         → numbers_of (functions_of ⟦<C::F as Based>⟧.base (C.shape c.now) kind answer)
         (verdict (functions_of ⟦<C::F as Based>⟧.base (C.shape c.now) kind answer) (opened verify id p))
-        ≡ encoding ⟦<C::F as Based>⟧.base (C.shape c.now) kind m }
+        ≡ encoding ⟦<C::F as Based>⟧.base (C.shape c.now) kind ms }
     ensures fair { (verify id : List ℕ) (t : C.F)
         → drawn_for ⟦<C::F as Based>⟧.base kind verify QueryPoint id 1 ≡ Some (t ∷ [])
         → power C.F.ring t (2 ^ wire_log (C.shape c.now).calls) ≢ C.F.ring.unit

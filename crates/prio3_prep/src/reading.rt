@@ -114,7 +114,8 @@ fn blind_from(bytes: &[u8]) -> Option<[u8; 16]>
 /// The leader's half: its input share spells it.
 #[tactic(auto, unfolding(prio3_share::specs::Preparing::half_of))]
 fn leader_half<C: Circuit>(alloc: Global, c: &C, input: &[u8]) -> Result<InputHalf<C::F>, PrepFault>
-    ensures { (kind : ℕ) → Begins half_in result (half_of ⟦<C::F as Based>⟧.base (C.shape c.now) kind Leader input.now) }
+    ensures { (kind : ℕ) → Begins half_in result
+        (half_of ⟦<C::F as Based>⟧.base (C.shape c.now) kind Leader input.now) }
 {
     let x_bytes = input_bytes(c);
     let proof_bytes = proof_bytes(c);

@@ -78,10 +78,10 @@ module _ {F : Type 0} {b : Base F} (laws : BaseLaws b) (c : Shape F) (keeps : Sh
   pub adds : (id seed : List ℕ) (x : List F) (parts : Parts) → length x ≡ c.input_len → sharing b c kind id x seed ≡ Some parts → AddTo b c kind id seed x parts
   adds id seed x parts hx e = (split id seed x parts hx e).adds
 
-  pub adds-encoded : EncodeLaws b.ring c → (id seed : List ℕ) (m : ℕ) (parts : Parts) → shard b c kind id m seed ≡ Some parts
-      → (x : List F) × (c.encode m ≡ Some x) × AddTo b c kind id seed x parts
+  pub adds-encoded : EncodeLaws b.ring c → (id seed ms : List ℕ) (parts : Parts) → shard b c kind id ms seed ≡ Some parts
+      → (x : List F) × (c.encode ms ≡ Some x) × AddTo b c kind id seed x parts
   unfolding shard
-  adds-encoded codes id seed m parts e = let one = bind-some (c.encode m) _ parts e in (one.0, one.1, adds id seed one.0 parts (codes.length-encode m one.0 one.1) one.2)
+  adds-encoded codes id seed ms parts e = let one = bind-some (c.encode ms) _ parts e in (one.0, one.1, adds id seed one.0 parts (codes.length-encode ms one.0 one.1) one.2)
 
   pub lengths : (id seed : List ℕ) (x : List F) (parts : Parts) → length x ≡ c.input_len → sharing b c kind id x seed ≡ Some parts → HaveLengths b c kind parts
   lengths id seed x parts hx e =

@@ -63,9 +63,9 @@ module _ {F : Type 0} (b : Base F) (c : Shape F) (kind : ℕ) where
       Some (shares_of id seed x x_helper wire_seeds proof_helper)
 
   -- the shares of a measurement; none where it isn't of the kind or a drawing is spent
-  unfoldable pub shard : List ℕ → ℕ → List ℕ → Option Parts
-  shard id m seed = c.encode m >>= λ x. sharing id x seed
+  unfoldable pub shard : List ℕ → List ℕ → List ℕ → Option Parts
+  shard id ms seed = c.encode ms >>= λ x. sharing id x seed
 
   -- a measurement as the vector that it adds to a sum: its truncated encoding
-  abbrev pub encoding : ℕ → Option (List ℕ)
-  encoding m = c.encode m >>= λ x. Some (map b.number (c.truncate x))
+  abbrev pub encoding : List ℕ → Option (List ℕ)
+  encoding ms = c.encode ms >>= λ x. Some (map b.number (c.truncate x))

@@ -13,9 +13,9 @@ pub fn halves_add_to_the_whole<C: Circuit>(c: &C, kind: u8)
     ensures input { (id seed : List ℕ) (x : List C.F) (parts : Parts) → length x ≡ (C.shape c.now).input_len
         → sharing ⟦<C::F as Based>⟧.base (C.shape c.now) kind id x seed ≡ Some parts
         → AddTo ⟦<C::F as Based>⟧.base (C.shape c.now) kind id seed x parts }
-    ensures measurement { (id seed : List ℕ) (m : ℕ) (parts : Parts)
-        → shard ⟦<C::F as Based>⟧.base (C.shape c.now) kind id m seed ≡ Some parts
-        → (x : List C.F) × ((C.shape c.now).encode m ≡ Some x)
+    ensures measurement { (id seed ms : List ℕ) (parts : Parts)
+        → shard ⟦<C::F as Based>⟧.base (C.shape c.now) kind id ms seed ≡ Some parts
+        → (x : List C.F) × ((C.shape c.now).encode ms ≡ Some x)
         × AddTo ⟦<C::F as Based>⟧.base (C.shape c.now) kind id seed x parts }
 {}
 

@@ -1,5 +1,5 @@
 //! Sharing: a client's side of a report.
-ghost use Rattle.std.specs.Prelude.{◌≡◌, ◌++◌, length, IfOk};
+ghost use Rattle.std.specs.Prelude.{◌≡◌, [], ◌∷◌, ◌++◌, length, IfOk};
 ghost use Rattle.vdaf_api.specs.Answered.{Shards, parts_of};
 ghost use Rattle.prio3_share.specs.Texts.{bytes_of};
 ghost use Rattle.prio3_share.specs.Sharing.{encoding, if_joint, shard, sharing};
@@ -102,9 +102,8 @@ pub fn shard_input<C: Circuit>(
     share_with(alloc, c, kind, id, x, &keys)
 }
 
-/// The shares of a measurement: those of its encoding. `BadValue` exactly where it isn't one of the kind, and `Spent`
-/// exactly where it is and a drawing is spent.
-#[tactic(auto, unfolding(crate::specs::Sharing::shard))]
+/// The shares of a measurement of one number: those of its encoding. `BadValue` exactly where it isn't one of the kind,
+/// and `Spent` exactly where it is and a drawing is spent.
 pub fn shard<C: Circuit>(
     alloc: Global,
     c: &C,
@@ -113,10 +112,26 @@ pub fn shard<C: Circuit>(
     m: u64,
     seed: &[u8; 16],
 ) -> Result<Shares, ShardFault>
-    ensures { Shards result (encoding ⟦<C::F as Based>⟧.base (C.shape c.now) kind m)
-        (shard ⟦<C::F as Based>⟧.base (C.shape c.now) kind id.now m seed.now) }
+    ensures { Shards result (encoding ⟦<C::F as Based>⟧.base (C.shape c.now) kind (m ∷ []))
+        (shard ⟦<C::F as Based>⟧.base (C.shape c.now) kind id.now (m ∷ []) seed.now) }
 {
-    match c.encode(alloc, m) {
+    shard_list(alloc, c, kind, id, &[m], seed)
+}
+
+/// The shares of a measurement that is a list of numbers, likewise.
+#[tactic(auto, unfolding(crate::specs::Sharing::shard))]
+pub fn shard_list<C: Circuit>(
+    alloc: Global,
+    c: &C,
+    kind: u8,
+    id: &Id,
+    m: &[u64],
+    seed: &[u8; 16],
+) -> Result<Shares, ShardFault>
+    ensures { Shards result (encoding ⟦<C::F as Based>⟧.base (C.shape c.now) kind m.now)
+        (shard ⟦<C::F as Based>⟧.base (C.shape c.now) kind id.now m.now seed.now) }
+{
+    match c.encode_list(alloc, m) {
         Ok(x) => shard_input(alloc, c, kind, id, &x, seed),
         Err(fault) => Err(of_encode(fault)),
     }

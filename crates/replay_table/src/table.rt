@@ -71,4 +71,12 @@ impl ReplayTable {
             Err(_) => Err(PutFault::NoMemory),
         }
     }
+
+    /// Takes a task's report out, with its job. None where it isn't held, and nothing changes then. It takes no memory.
+    pub fn take_out(&mut self, name: &Name, id: &Id) -> Option<JobNo>
+        ensures job { result ≡ map.get self.old (name.now, id.now) }
+        ensures left { self.new ≡ map.remove self.old (name.now, id.now) }
+    {
+        self.jobs.remove(&(*name, *id))
+    }
 }

@@ -28,6 +28,26 @@ fn the_first_job_stays(rt: HostRuntime) -> Result<(), Fail> {
     assert_eq!(rt; table.find(&name, &id), Some(job(3)));
     assert_eq!(rt; table.find(&other, &id), None);
     assert_eq!(rt; table.find(&name, &[2; 16]), None);
+    assert_eq!(rt; table.take_out(&other, &id), None);
+    assert_eq!(rt; table.take_out(&name, &[2; 16]), None);
+    assert_eq!(rt; table.take_out(&name, &id), Some(job(3)));
+    assert_eq!(rt; table.take_out(&name, &id), None);
+    assert_eq!(rt; table.put(&name, &id, job(4)), Ok(()));
+    Ok(())
+}
+
+#[test]
+fn faults_are_printed(rt: HostRuntime) -> Result<(), Fail> {
+    let alloc = rt.alloc();
+    for (fault, text) in [
+        (
+            PutFault::There { job: job(3) },
+            "the report was finished before",
+        ),
+        (PutFault::NoMemory, "no memory"),
+    ] {
+        assert_eq!(rt; format!(in alloc; "{fault}")?.as_str(), text);
+    }
     Ok(())
 }
 
@@ -39,7 +59,7 @@ fn next_drawn(number: u64) -> u64 {
 }
 
 #[test]
-fn drawn_puts_and_finds_agree_with_a_plain_list(rt: HostRuntime) -> Result<(), Fail> {
+fn drawn_calls_agree_with_a_plain_list(rt: HostRuntime) -> Result<(), Fail> {
     let (name, other) = (
         Name::new(b"v").expect(&rt, "a name"),
         Name::new(b"w").expect(&rt, "a name"),
@@ -50,7 +70,7 @@ fn drawn_puts_and_finds_agree_with_a_plain_list(rt: HostRuntime) -> Result<(), F
     for turn in 0..10_000 {
         drawn = next_drawn(drawn);
         let task = if (drawn >> 40) % 2 == 0 { name } else { other };
-        let id = [((drawn >> 33) % 100) as u8; 16];
+        let id = [((drawn >> 33) % 120) as u8; 16];
         let mut held = None;
         for (known_task, known_id, known_job) in &plain {
             if *known_task == task && *known_id == id {
@@ -64,8 +84,23 @@ fn drawn_puts_and_finds_agree_with_a_plain_list(rt: HostRuntime) -> Result<(), F
             if held.is_none() {
                 plain.push((task, id, job(turn)))?;
             }
+        } else if (drawn >> 50) % 4 == 1 {
+            assert_eq!(rt; table.take_out(&task, &id), held);
+            plain.retain(|known| known.0 != task || known.1 != id);
         }
     }
-    assert_eq!(rt; plain.len(), 200);
+    assert!(rt; 100 < plain.len() && plain.len() < 140);
     Ok(())
+}
+
+/// The value again. It may be moved to another thread, and shared with it.
+fn shared<T: Send + Sync>(value: T) -> T {
+    value
+}
+
+#[test]
+fn a_table_may_be_shared_with_workers(rt: HostRuntime) {
+    let name = Name::new(b"v").expect(&rt, "a name");
+    let table = shared(ReplayTable::new(rt.alloc()));
+    assert_eq!(rt; table.find(&name, &[1; 16]), None);
 }

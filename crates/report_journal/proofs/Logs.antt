@@ -1,11 +1,11 @@
 -- How a journal's invariant goes on.
-use Rattle.std.proofs.Common.{◌≡◌, ◌⊎◌, inl, inr, ℕ, ◌+◌, ◌≤◌, ◌<◌, ◌^◌, Bool, false, List, ◌++◌, length, take, drop, slice_index, Option, Some, length-drop, Vec, sym, ◌∙◌, ap, subst, arith, take-append-drop}
+use Rattle.std.proofs.Common.{◌≡◌, ◌⊎◌, inl, inr, ℕ, ◌+◌, ◌≤◌, ◌<◌, ◌^◌, Bool, false, IsTrue, List, ◌++◌, length, take, drop, slice_index, Option, Some, length-drop, Vec, sym, ◌∙◌, ap, subst, arith, take-append-drop}
 use Rattle.std.proofs.lemmas.List.{length-map, take_all, map-append, drop_at, take-append-le}
 use Rattle.std.specs.declared.alloc.Global.{Global}
 use Rattle.dap_disk.specs.Disk.{Tells, LeavesOnly}
 use Rattle.dap_disk.specs.RunLaws.{weaker}
 use Rattle.report_journal.specs.Journal.{Closed, Either, Stands, IsBlock, behind}
-use Rattle.report_journal.specs.Log.{contents, IsLog, IsStanding}
+use Rattle.report_journal.specs.Log.{contents, EachImage, IsAppended, IsLog, IsStanding}
 
 pub stands : (b : List (List ℕ)) (q : ℕ) (c : List ℕ) → Closed b q c → Stands b c
 stands b q c closed = inl (q, closed)
@@ -31,6 +31,16 @@ module _ {D : Type 0} (holds : D → Option (List ℕ)) (is_up : D → Bool) (ma
         all = λ u. is;
         standing = λ u. subst (λ (l : List (Vec ℕ Global)). IsStanding holds is_up may_leave disk (contents l) gate) (sym front) standing;
       }
+
+  -- all that is kept was appended
+  pub appended_log : (kept same : List (Vec ℕ Global)) (durable n gate size : ℕ) (up : Bool) → same ≡ kept → n ≡ length kept → gate + size < 2 ^ 64 → size ≡ length (behind (contents (drop durable kept))) → IsTrue (is_up disk)
+      → Tells (holds disk) (IsAppended same durable gate) → EachImage (may_leave disk) (IsAppended same durable gate) → IsLog holds is_up may_leave disk kept n (gate + size) 0 up
+  appended_log kept same durable n gate size up same_is all fits sized usable held images =
+      let turn : (c : List ℕ) → IsAppended same durable gate c → Closed (contents kept) (gate + size) c = λ c closed.
+      subst (λ (q : ℕ). Closed (contents kept) (gate + q) c) (sym sized)
+      (subst (λ (rs : List (List ℕ)). Closed rs (gate + length (behind (contents (drop durable kept)))) c) (both_parts durable kept)
+      (subst (λ (l : List (Vec ℕ Global)). IsAppended l durable gate c) same_is closed)) in
+      whole_log kept n (gate + size) up all fits (record { usable = usable; held = λ c told. turn c (held c told); images = λ c left. turn c (images c left) })
 
   -- the fate of what is in hand is open
   pub down_log : (kept : List (Vec ℕ Global)) (n gate size : ℕ) (up : Bool) → up ≡ false → n ≤ length kept → size ≡ length (behind (contents (drop n kept))) → gate + size < 2 ^ 64

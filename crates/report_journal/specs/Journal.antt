@@ -2,6 +2,7 @@
 use Rattle.std.specs.Prelude.{◌≡◌, ◌≢◌, ◌⊎◌, ℕ, ◌+◌, ◌≤◌, ◌<◌, List, [], ◌∷◌, ◌++◌, length, take, drop, slice_index}
 use Rattle.std.specs.List.{flat_map}
 use Rattle.std.specs.Int.{to_be_bytes, w32}
+use Rattle.dap_bytes.specs.declared.limits.TheConstants.{LONGEST_BLOCK}
 use Rattle.dap_disk.specs.Disk.{written}
 
 -- a record behind its length
@@ -27,7 +28,12 @@ all_records parts = flat_map (λ records. records) parts
 -- records that one block may have: 16 MiB with their lengths at most
 pub record IsBlock (records : List (List ℕ)) : Type 0 where
   pub some : 0 < length records
-  pub size : length (body records) ≤ 16777216
+  pub size : length (body records) ≤ LONGEST_BLOCK
+
+-- each record fits into a block by itself
+abbrev pub EachFits : List (List ℕ) → Type 0
+EachFits [] = Unit {0}
+EachFits (record_bytes ∷ records) = (length (framed record_bytes) ≤ LONGEST_BLOCK) × EachFits records
 
 -- each is such records
 abbrev pub AreBlocks : List (List (List ℕ)) → Type 0

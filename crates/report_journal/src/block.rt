@@ -4,15 +4,12 @@ ghost use Rattle.std.specs.declared.alloc.Global.{Global as TheGlobal};
 ghost use Rattle.report_journal.specs.Journal.{body, behind};
 ghost use Rattle.report_journal.specs.Log.{contents};
 
-use dap_bytes::{put_u8, put_u32};
+use dap_bytes::{LONGEST_BLOCK, put_u8, put_u32};
 use std::alloc::{AllocError, Global};
-
-/// How many bytes the records of a block have at most, the four bytes of each record's length included.
-pub const MAX_BLOCK: usize = 16_777_216;
 
 /// The length of the records behind their lengths.
 pub(crate) fn body_len(records: &[Vec<u8>]) -> usize
-    requires { length (body (contents records.now)) ≤ MAX_BLOCK }
+    requires { length (body (contents records.now)) ≤ LONGEST_BLOCK }
     ensures { result ≡ length (body (contents records.now)) }
 {
     let mut size = 0;
@@ -24,7 +21,7 @@ pub(crate) fn body_len(records: &[Vec<u8>]) -> usize
 
 /// What an append of these records writes behind the gate.
 pub(crate) fn block_bytes(alloc: Global, records: &[Vec<u8>]) -> Result<Vec<u8>, AllocError>
-    requires { length (body (contents records.now)) ≤ MAX_BLOCK }
+    requires { length (body (contents records.now)) ≤ LONGEST_BLOCK }
     ensures { IfOk result (λ v. v.items ≡ behind (contents records.now)) }
 {
     let mut out = Vec::new(alloc);
@@ -36,7 +33,7 @@ pub(crate) fn block_bytes(alloc: Global, records: &[Vec<u8>]) -> Result<Vec<u8>,
 
 /// Appends the records behind their lengths.
 pub(crate) fn put_records(out: &mut Vec<u8>, records: &[Vec<u8>]) -> Result<(), AllocError>
-    requires { length (body (contents records.now)) ≤ MAX_BLOCK }
+    requires { length (body (contents records.now)) ≤ LONGEST_BLOCK }
     ensures { OnOk result (out.new.items ≡ out.old.items ++ body (contents records.now)) }
 {
     for r in records {
@@ -52,7 +49,8 @@ pub(crate) fn keep_copies(
     held: &mut Vec<Vec<u8>>,
     records: &[Vec<u8>],
 ) -> Result<(), AllocError>
-    ensures ok { OnOk result ((more : List (Vec ℕ TheGlobal)) × (held.new.items ≡ held.old.items ++ more) × (contents more ≡ contents records.now)) }
+    ensures ok { OnOk result ((more : List (Vec ℕ TheGlobal))
+        × (held.new.items ≡ held.old.items ++ more) × (contents more ≡ contents records.now)) }
     ensures err { OnErr result (held.new.items ≡ held.old.items) }
 {
     let n = held.len();
@@ -68,7 +66,8 @@ fn push_copies(
     held: &mut Vec<Vec<u8>>,
     records: &[Vec<u8>],
 ) -> Result<(), AllocError>
-    ensures front { (more : List (Vec ℕ TheGlobal)) × (held.new.items ≡ held.old.items ++ more) × OnOk result (contents more ≡ contents records.now) }
+    ensures front { (more : List (Vec ℕ TheGlobal))
+        × (held.new.items ≡ held.old.items ++ more) × OnOk result (contents more ≡ contents records.now) }
 {
     for r in records {
         held.push(Vec::from_slice(alloc, r)?)?;

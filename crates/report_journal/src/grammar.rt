@@ -4,13 +4,16 @@ ghost use Rattle.report_journal.specs.Journal.{framed, body, block, Closed, NoJo
 ghost use Rattle.report_journal.specs.Log.{contents};
 ghost use Rattle.report_journal.specs.Reading.{Behind, ClosedIn};
 
-use crate::{LogFault, MAX_BLOCK};
+use crate::LogFault;
+use dap_bytes::LONGEST_BLOCK;
 use std::alloc::{AllocError, Global};
 
 /// The size of the record that stands in front, or none where no record does.
 fn next_record(rest: &[u8]) -> Option<usize>
-    ensures some { IfSome result (λ n. (4 + n ≤ length rest.now) × (framed (take n (drop 4 rest.now)) ++ drop (4 + n) rest.now ≡ rest.now)) }
-    ensures none { result ≡ None → 0 < length rest.now → (k : List (List ℕ)) → length (body k) < 2 ^ 32 → rest.now ≡ body k → ⊥ }
+    ensures some { IfSome result (λ n. (4 + n ≤ length rest.now)
+        × (framed (take n (drop 4 rest.now)) ++ drop (4 + n) rest.now ≡ rest.now)) }
+    ensures none { result ≡ None → 0 < length rest.now
+        → (k : List (List ℕ)) → length (body k) < 2 ^ 32 → rest.now ≡ body k → ⊥ }
 {
     if rest.len() < 4 {
         return None;
@@ -24,8 +27,9 @@ fn next_record(rest: &[u8]) -> Option<usize>
 
 /// Adds the records of a part, and says whether the part is one or more of them and nothing else.
 fn split_records(alloc: Global, part: &[u8], records: &mut Vec<Vec<u8>>) -> Result<bool, AllocError>
-    requires { length part.now ≤ MAX_BLOCK }
-    ensures whole { IfOk result (λ is. is ≡ true → (k : List (List ℕ)) × (0 < length k) × (part.now ≡ body k) × (contents records.new.items ≡ contents records.old.items ++ k)) }
+    requires { length part.now ≤ LONGEST_BLOCK }
+    ensures whole { IfOk result (λ is. is ≡ true → (k : List (List ℕ))
+        × (0 < length k) × (part.now ≡ body k) × (contents records.new.items ≡ contents records.old.items ++ k)) }
     ensures none { IfOk result (λ is. is ≡ false → (k : List (List ℕ)) → 0 < length k → part.now ≡ body k → ⊥) }
 {
     if part.len() == 0 {
@@ -50,14 +54,16 @@ fn next_block(
 ) -> Result<Option<usize>, AllocError>
     requires some { 0 < length rest.now }
     requires gate { slice_index rest.now 0 ≡ 1 }
-    ensures some { IfOk result (λ found. IfSome found (λ n. (n < length rest.now) × ((k : List (List ℕ)) × IsBlock k × (take n rest.now ≡ block k) × (contents records.new.items ≡ contents records.old.items ++ k)))) }
-    ensures none { IfOk result (λ found. found ≡ None → (k : List (List ℕ)) (more : List ℕ) → IsBlock k → rest.now ≡ block k ++ more → more ≡ []) }
+    ensures some { IfOk result (λ found. IfSome found (λ n. (n < length rest.now)
+        × ((k : List (List ℕ)) × IsBlock k × (take n rest.now ≡ block k) × (contents records.new.items ≡ contents records.old.items ++ k)))) }
+    ensures none { IfOk result (λ found. found ≡ None
+        → (k : List (List ℕ)) (more : List ℕ) → IsBlock k → rest.now ≡ block k ++ more → more ≡ []) }
 {
     if rest.len() < 5 {
         return Ok(None);
     }
     let size = u32::from_be_bytes([rest[1], rest[2], rest[3], rest[4]]) as usize;
-    if size > MAX_BLOCK {
+    if size > LONGEST_BLOCK {
         return Ok(None);
     }
     if size >= rest.len() - 5 {

@@ -14,7 +14,6 @@ mod packing;
 mod reader;
 mod retry;
 
-pub use block::MAX_BLOCK;
 pub use fault::{AppendFault, LogFault, RestartFault};
 pub use laws::reading_law;
 pub use log::{Log, OpenRefused};

@@ -1,14 +1,16 @@
 //! A journal: blocks of records, each behind a gate byte that is opened once the block is on the disk.
 ghost use Rattle.std.specs.Prelude.{◌≡◌, ◌⊎◌, ◌≤◌, ◌<◌, ◌^◌, ◌+◌, ◌++◌, [], List, ℕ, length, IfOk, IfErr, OnOk, OnErr, IsErrOf, IsTrue, Some, false};
 ghost use Rattle.dap_disk.specs.Disk.{CountsRestart, CountsStop, Tells, LeavesOnly, of_told};
+ghost use Rattle.report_journal.specs.Retry.{WithOrWithout};
 ghost use Rattle.report_journal.specs.Journal.{Closed, NoJournal, Stands, body, with_block};
-ghost use Rattle.report_journal.specs.Log.{Leaves};
-ghost use Rattle.report_journal.specs.Reading.{SameRecords, opened};
+ghost use Rattle.report_journal.specs.Log.{AddsBlock, ComesBack, IsDownWith, Leaves, StaysUp};
+ghost use Rattle.report_journal.specs.Reading.{IsAsBefore, SameRecords, TellsNone, opened};
 
 use crate::block::{block_bytes, keep_copies};
 use crate::moves::{gate_after_restart, write_block};
 use crate::opening::start;
-use crate::{AppendFault, LogFault, MAX_BLOCK, RestartFault};
+use crate::{AppendFault, LogFault, RestartFault};
+use dap_bytes::LONGEST_BLOCK;
 use dap_disk::{Disk, StoreFault};
 use std::alloc::Global;
 use std::marker::Model;
@@ -72,11 +74,15 @@ impl<D: Disk> Log<D> {
         ensures images { IfOk result (λ log. Leaves D.may_leave log) }
 
         // At every moment a stop leaves what it might have left before, or a file with the same records.
-        ensures any_moment { IfOk result (λ log. LeavesOnly D.moment D.left_since disk log.disk (λ c. D.may_leave disk c ⊎ SameRecords (D.holds disk) c)) }
-        ensures any_moment_err { IfErr result (λ e. LeavesOnly D.moment D.left_since disk e.disk (λ c. D.may_leave disk c ⊎ SameRecords (D.holds disk) c)) }
+        ensures any_moment { IfOk result (λ log. LeavesOnly D.moment D.left_since disk log.disk
+            (IsAsBefore (D.may_leave disk) (D.holds disk))) }
+        ensures any_moment_err { IfErr result (λ e. LeavesOnly D.moment D.left_since disk e.disk
+            (IsAsBefore (D.may_leave disk) (D.holds disk))) }
 
-        ensures none { IfErr result (λ e. (at : ℕ) → e.fault ≡ LogFault.NotAJournal at → Tells (D.holds disk) (NoJournal at) × (D.holds e.disk ≡ D.holds disk) × IsTrue (D.up e.disk)) }
-        ensures memory { IfErr result (λ e. e.fault ≡ LogFault.NoMemory → IsTrue (D.up e.disk) × Tells (D.holds e.disk) (SameRecords (D.holds disk))) }
+        ensures none { IfErr result (λ e. (at : ℕ) → e.fault ≡ LogFault.NotAJournal at
+            → TellsNone at (D.holds disk) × (D.holds e.disk ≡ D.holds disk) × IsTrue (D.up e.disk)) }
+        ensures memory { IfErr result (λ e. e.fault ≡ LogFault.NoMemory
+            → IsTrue (D.up e.disk) × Tells (D.holds e.disk) (SameRecords (D.holds disk))) }
         ensures down { IfErr result (λ e. e.fault ≡ LogFault.Down → D.up e.disk ≡ false) }
 
         // Where it succeeds no fault of the disk is counted, and else one stop, that of `Down`.
@@ -136,21 +142,23 @@ impl<D: Disk> Log<D> {
         disk
     }
 
-    /// Adds records as one block, at least one and `MAX_BLOCK` bytes at most. It writes the block behind the shut
+    /// Adds records as one block, at least one and `LONGEST_BLOCK` bytes at most. It writes the block behind the shut
     /// gate, syncs, opens the gate and syncs, so a stop at any moment leaves all of them or none. After `Ok` every
     /// stop leaves them. After `Down` they are in hand, and a restart finds out whether they count. After `NoMemory`
     /// the records are as before, in every image too.
     pub fn append(&mut self, alloc: Global, records: &[Vec<u8>]) -> Result<(), AppendFault>
         requires up { IsTrue self.old.up }
         requires some { 0 < length records.now }
-        requires size { length (body (contents records.now)) ≤ MAX_BLOCK }
+        requires size { length (body (contents records.now)) ≤ LONGEST_BLOCK }
 
-        ensures added { OnOk result ((self.new.records ≡ self.old.records ++ contents records.now) × IsTrue self.new.up) }
-        ensures file { OnOk result (Tells (D.holds self.old.disk) (λ c. (q : ℕ) × Closed self.old.records q c × (D.holds self.new.disk ≡ Some (with_block q (contents records.now) c)))) }
+        ensures added { OnOk result ((self.new.records ≡ self.old.records ++ contents records.now)
+            × IsTrue self.new.up) }
+        ensures file { OnOk result (AddsBlock D.holds (contents records.now) self.old self.new) }
         ensures durable { OnOk result ((c : List ℕ) → D.may_leave self.new.disk c → Stands self.new.records c) }
-        ensures any_moment { LeavesOnly D.moment D.left_since self.old.disk self.new.disk (λ c. Stands self.old.records c ⊎ Stands (self.old.records ++ contents records.now) c) }
-        ensures memory { IsErrOf result AppendFault.NoMemory → IsTrue self.new.up × (self.new.records ≡ self.old.records) × ((c : List ℕ) → D.may_leave self.new.disk c → Stands self.old.records c) }
-        ensures in_hand { IsErrOf result AppendFault.Down → (self.new.up ≡ false) × (self.new.records ≡ self.old.records) × (self.new.coming ≡ contents records.now) }
+        ensures any_moment { LeavesOnly D.moment D.left_since self.old.disk self.new.disk
+            (WithOrWithout self.old.records (contents records.now)) }
+        ensures memory { IsErrOf result AppendFault.NoMemory → StaysUp D.may_leave self.old self.new }
+        ensures in_hand { IsErrOf result AppendFault.Down → IsDownWith (contents records.now) self.old self.new }
         ensures at_rest { IsTrue self.new.up → self.new.coming ≡ [] }
         ensures images { Leaves D.may_leave self.new }
         ensures counts { CountsStop D.downs D.deads (IsErrOf result AppendFault.Down) self.old.disk self.new.disk }
@@ -185,15 +193,17 @@ impl<D: Disk> Log<D> {
     /// Restarts the disk, and finds by the byte at the last gate whether the block in hand is on it. It takes no
     /// memory. After a refusal it is down, with the records and the block in hand as before.
     pub fn restart(&mut self) -> Result<(), RestartFault>
-        ensures records { OnOk result (IsTrue self.new.up × ((self.new.records ≡ self.old.records) ⊎ (self.new.records ≡ self.old.records ++ self.old.coming))) }
+        ensures records { OnOk result (ComesBack self.old self.new) }
         ensures told { OnOk result (Tells (D.holds self.new.disk) (Stands self.new.records)) }
         ensures image { OnOk result (Tells (D.holds self.new.disk) (D.may_leave self.old.disk)) }
         ensures durable { OnOk result ((c : List ℕ) → D.may_leave self.new.disk c → Stands self.new.records c) }
-        ensures any_moment { LeavesOnly D.moment D.left_since self.old.disk self.new.disk (λ c. Stands self.old.records c ⊎ Stands (self.old.records ++ self.old.coming) c) }
-        ensures same { OnErr result ((self.new.up ≡ false) × (self.new.records ≡ self.old.records) × (self.new.coming ≡ self.old.coming)) }
+        ensures any_moment { LeavesOnly D.moment D.left_since self.old.disk self.new.disk
+            (WithOrWithout self.old.records self.old.coming) }
+        ensures same { OnErr result (IsDownWith self.old.coming self.old self.new) }
         ensures at_rest { OnOk result (self.new.coming ≡ []) }
         ensures images { Leaves D.may_leave self.new }
-        ensures counts { CountsRestart D.downs D.deads (IsErrOf result RestartFault.Down) (IsErrOf result RestartFault.Dead) self.old.disk self.new.disk }
+        ensures counts { CountsRestart D.downs D.deads (IsErrOf result RestartFault.Down)
+            (IsErrOf result RestartFault.Dead) self.old.disk self.new.disk }
     {
         self.up = false;
         let open_gate = gate_after_restart(&mut self.disk, self.gate)?;

@@ -2,7 +2,7 @@
 ghost use Rattle.std.specs.Prelude.{◌≡◌, ◌⊎◌, ◌≤◌, ◌<◌, ◌^◌, ◌+◌, ◌++◌, ◌↔◌, [], ◌∷◌, List, ℕ, length, take, drop, slice_index, IfOk, OnOk, IsErrOf, IsTrue, false};
 ghost use Rattle.dap_disk.specs.Disk.{CountsRestart, CountsStop, Tells, NoMore, LeavesOnly, Only, of_told, written};
 ghost use Rattle.report_journal.specs.Journal.{Closed, Staged, Either, IsBlock, behind};
-ghost use Rattle.report_journal.specs.Log.{contents};
+ghost use Rattle.report_journal.specs.Log.{EachImage, IsAppended, IsEither, IsShut, IsStaged, contents};
 
 use crate::RestartFault;
 use dap_disk::{Disk, StoreFault, write_synced};
@@ -16,16 +16,17 @@ fn stage_block<D: Disk>(
     bytes: &[u8],
 ) -> Result<(), StoreFault>
     requires up { IsTrue (D.up disk.old) }
-    requires held { Tells (D.holds disk.old) (Closed (contents (take durable kept.now)) gate) }
-    requires images { (c : List ℕ) → D.may_leave disk.old c → Closed (contents (take durable kept.now)) gate c }
+    requires held { Tells (D.holds disk.old) (IsShut kept.now durable gate) }
+    requires images { EachImage (D.may_leave disk.old) (IsShut kept.now durable gate) }
     requires bytes { bytes.now ≡ behind (contents (drop durable kept.now)) }
     requires fits { gate + length bytes.now < 2 ^ 64 }
     ensures done { OnOk result (D.holds disk.new ≡ of_told (written (gate + 1) bytes.now) (D.holds disk.old)) }
-    ensures staged { OnOk result (Tells (D.holds disk.new) (Staged (contents (take durable kept.now)) (contents (drop durable kept.now)) gate)) }
-    ensures durable { OnOk result ((c : List ℕ) → D.may_leave disk.new c → Staged (contents (take durable kept.now)) (contents (drop durable kept.now)) gate c) }
-    ensures images { (c : List ℕ) → D.may_leave disk.new c → Closed (contents (take durable kept.now)) gate c }
-    ensures any_moment { LeavesOnly D.moment D.left_since disk.old disk.new (Closed (contents (take durable kept.now)) gate) }
-    ensures memory { IsErrOf result StoreFault.NoMemory → IsTrue (D.up disk.new) × Tells (D.holds disk.new) (Closed (contents (take durable kept.now)) gate) }
+    ensures staged { OnOk result (Tells (D.holds disk.new) (IsStaged kept.now durable gate)) }
+    ensures durable { OnOk result (EachImage (D.may_leave disk.new) (IsStaged kept.now durable gate)) }
+    ensures images { EachImage (D.may_leave disk.new) (IsShut kept.now durable gate) }
+    ensures any_moment { LeavesOnly D.moment D.left_since disk.old disk.new (IsShut kept.now durable gate) }
+    ensures memory { IsErrOf result StoreFault.NoMemory → IsTrue (D.up disk.new)
+        × Tells (D.holds disk.new) (IsShut kept.now durable gate) }
     ensures up { OnOk result (IsTrue (D.up disk.new)) }
     ensures counts { CountsStop D.downs D.deads (IsErrOf result StoreFault.Down) disk.old disk.new }
     ensures down { IsErrOf result StoreFault.Down → D.up disk.new ≡ false }
@@ -41,15 +42,16 @@ fn open_gate<D: Disk>(
     gate: u64,
 ) -> Result<(), StoreFault>
     requires up { IsTrue (D.up disk.old) }
-    requires held { Tells (D.holds disk.old) (Staged (contents (take durable kept.now)) (contents (drop durable kept.now)) gate) }
-    requires images { (c : List ℕ) → D.may_leave disk.old c → Staged (contents (take durable kept.now)) (contents (drop durable kept.now)) gate c }
+    requires held { Tells (D.holds disk.old) (IsStaged kept.now durable gate) }
+    requires images { EachImage (D.may_leave disk.old) (IsStaged kept.now durable gate) }
     requires block { IsBlock (contents (drop durable kept.now)) }
     ensures done { OnOk result (D.holds disk.new ≡ of_told (written gate (1 ∷ [])) (D.holds disk.old)) }
-    ensures held { OnOk result (Tells (D.holds disk.new) (Closed (contents (take durable kept.now) ++ contents (drop durable kept.now)) (gate + length (behind (contents (drop durable kept.now)))))) }
-    ensures durable { OnOk result ((c : List ℕ) → D.may_leave disk.new c → Closed (contents (take durable kept.now) ++ contents (drop durable kept.now)) (gate + length (behind (contents (drop durable kept.now)))) c) }
-    ensures images { (c : List ℕ) → D.may_leave disk.new c → Either (contents (take durable kept.now)) (contents (drop durable kept.now)) gate c }
-    ensures any_moment { LeavesOnly D.moment D.left_since disk.old disk.new (Either (contents (take durable kept.now)) (contents (drop durable kept.now)) gate) }
-    ensures memory { IsErrOf result StoreFault.NoMemory → IsTrue (D.up disk.new) × Tells (D.holds disk.new) (Closed (contents (take durable kept.now)) gate) × ((c : List ℕ) → D.may_leave disk.new c → Closed (contents (take durable kept.now)) gate c) }
+    ensures held { OnOk result (Tells (D.holds disk.new) (IsAppended kept.now durable gate)) }
+    ensures durable { OnOk result (EachImage (D.may_leave disk.new) (IsAppended kept.now durable gate)) }
+    ensures images { EachImage (D.may_leave disk.new) (IsEither kept.now durable gate) }
+    ensures any_moment { LeavesOnly D.moment D.left_since disk.old disk.new (IsEither kept.now durable gate) }
+    ensures memory { IsErrOf result StoreFault.NoMemory → IsTrue (D.up disk.new)
+        × Tells (D.holds disk.new) (IsShut kept.now durable gate) × (EachImage (D.may_leave disk.new) (IsShut kept.now durable gate)) }
     ensures up { OnOk result (IsTrue (D.up disk.new)) }
     ensures counts { CountsStop D.downs D.deads (IsErrOf result StoreFault.Down) disk.old disk.new }
     ensures down { IsErrOf result StoreFault.Down → D.up disk.new ≡ false }
@@ -66,18 +68,20 @@ pub(crate) fn write_block<D: Disk>(
     bytes: &[u8],
 ) -> Result<(), StoreFault>
     requires up { IsTrue (D.up disk.old) }
-    requires held { Tells (D.holds disk.old) (Closed (contents (take durable kept.now)) gate) }
-    requires images { (c : List ℕ) → D.may_leave disk.old c → Closed (contents (take durable kept.now)) gate c }
+    requires held { Tells (D.holds disk.old) (IsShut kept.now durable gate) }
+    requires images { EachImage (D.may_leave disk.old) (IsShut kept.now durable gate) }
     requires bytes { bytes.now ≡ behind (contents (drop durable kept.now)) }
     requires block { IsBlock (contents (drop durable kept.now)) }
     requires fits { gate + length bytes.now < 2 ^ 64 }
-    ensures file { OnOk result (D.holds disk.new ≡ of_told (λ c. written gate (1 ∷ []) (written (gate + 1) bytes.now c)) (D.holds disk.old)) }
-    ensures held { OnOk result (Tells (D.holds disk.new) (Closed (contents (take durable kept.now) ++ contents (drop durable kept.now)) (gate + length (behind (contents (drop durable kept.now)))))) }
-    ensures durable { OnOk result ((c : List ℕ) → D.may_leave disk.new c → Closed (contents (take durable kept.now) ++ contents (drop durable kept.now)) (gate + length (behind (contents (drop durable kept.now)))) c) }
+    ensures file { OnOk result (D.holds disk.new
+        ≡ of_told (λ c. written gate (1 ∷ []) (written (gate + 1) bytes.now c)) (D.holds disk.old)) }
+    ensures held { OnOk result (Tells (D.holds disk.new) (IsAppended kept.now durable gate)) }
+    ensures durable { OnOk result (EachImage (D.may_leave disk.new) (IsAppended kept.now durable gate)) }
     ensures up { OnOk result (IsTrue (D.up disk.new)) }
-    ensures images { (c : List ℕ) → D.may_leave disk.new c → Either (contents (take durable kept.now)) (contents (drop durable kept.now)) gate c }
-    ensures any_moment { LeavesOnly D.moment D.left_since disk.old disk.new (Either (contents (take durable kept.now)) (contents (drop durable kept.now)) gate) }
-    ensures memory { IsErrOf result StoreFault.NoMemory → IsTrue (D.up disk.new) × Tells (D.holds disk.new) (Closed (contents (take durable kept.now)) gate) × ((c : List ℕ) → D.may_leave disk.new c → Closed (contents (take durable kept.now)) gate c) }
+    ensures images { EachImage (D.may_leave disk.new) (IsEither kept.now durable gate) }
+    ensures any_moment { LeavesOnly D.moment D.left_since disk.old disk.new (IsEither kept.now durable gate) }
+    ensures memory { IsErrOf result StoreFault.NoMemory → IsTrue (D.up disk.new)
+        × Tells (D.holds disk.new) (IsShut kept.now durable gate) × (EachImage (D.may_leave disk.new) (IsShut kept.now durable gate)) }
     ensures counts { CountsStop D.downs D.deads (IsErrOf result StoreFault.Down) disk.old disk.new }
     ensures down { IsErrOf result StoreFault.Down → D.up disk.new ≡ false }
 {
@@ -87,13 +91,15 @@ pub(crate) fn write_block<D: Disk>(
 
 /// Restarts the disk, and says whether the gate at this place stands open.
 pub(crate) fn gate_after_restart<D: Disk>(disk: &mut D, gate: u64) -> Result<bool, RestartFault>
-    ensures told { IfOk result (λ open_gate. Tells (D.holds disk.new) (λ c. gate < length c → (IsTrue open_gate ↔ (slice_index c gate ≡ 1)))) }
+    ensures told { IfOk result (λ open_gate. Tells (D.holds disk.new)
+        (λ c. gate < length c → (IsTrue open_gate ↔ (slice_index c gate ≡ 1)))) }
     ensures image { OnOk result (Tells (D.holds disk.new) (D.may_leave disk.old)) }
     ensures settled { OnOk result (Only (D.holds disk.new) (D.may_leave disk.new)) }
     ensures up { OnOk result (IsTrue (D.up disk.new)) }
     ensures images { NoMore (D.may_leave disk.old) (D.may_leave disk.new) }
     ensures any_moment { LeavesOnly D.moment D.left_since disk.old disk.new (D.may_leave disk.old) }
-    ensures counts { CountsRestart D.downs D.deads (IsErrOf result RestartFault.Down) (IsErrOf result RestartFault.Dead) disk.old disk.new }
+    ensures counts { CountsRestart D.downs D.deads (IsErrOf result RestartFault.Down)
+        (IsErrOf result RestartFault.Dead) disk.old disk.new }
 {
     disk.restart()?;
     let mut byte = [0];

@@ -3,7 +3,7 @@ ghost use Rattle.std.specs.Prelude.{◌≡◌, ◌≢◌, ◌⊎◌, ◌≤◌, 
 ghost use Rattle.dap_disk.specs.Disk.{Tells, NoMore, LeavesOnly, Only, CountsStop, of_told};
 ghost use Rattle.report_journal.specs.Journal.{Closed, NoJournal, Stands};
 ghost use Rattle.report_journal.specs.Log.{contents};
-ghost use Rattle.report_journal.specs.Reading.{SameRecords, is_fresh, opened};
+ghost use Rattle.report_journal.specs.Reading.{IsAsBefore, SameRecords, TellsNone, is_fresh, opened};
 
 use crate::LogFault;
 use crate::grammar::parse;
@@ -14,7 +14,8 @@ use std::alloc::Global;
 pub fn read_into<D: Disk>(disk: &mut D, buf: &mut [u8]) -> Result<usize, Down>
     requires { IsTrue (D.up disk.old) }
     ensures within { IfOk result (λ n. n ≤ length buf.old) }
-    ensures told { IfOk result (λ n. Tells (D.holds disk.old) (λ c. (take n buf.new ≡ take n c) × (n ≤ length c) × (length buf.old ≤ length c → n ≡ length buf.old))) }
+    ensures told { IfOk result (λ n. Tells (D.holds disk.old)
+        (λ c. (take n buf.new ≡ take n c) × (n ≤ length c) × (length buf.old ≤ length c → n ≡ length buf.old))) }
     ensures same { D.holds disk.new ≡ D.holds disk.old }
     ensures images { NoMore (D.may_leave disk.old) (D.may_leave disk.new) }
     ensures any_moment { LeavesOnly D.moment D.left_since disk.old disk.new (D.may_leave disk.old) }
@@ -71,7 +72,8 @@ fn clear<D: Disk>(disk: &mut D, size: usize) -> Result<(), StoreFault>
     ensures up { OnOk result (IsTrue (D.up disk.new)) }
     ensures images { (c : List ℕ) → D.may_leave disk.new c → length c ≤ 1 }
     ensures any_moment { LeavesOnly D.moment D.left_since disk.old disk.new (λ c. length c ≤ 1) }
-    ensures memory { IsErrOf result StoreFault.NoMemory → (D.holds disk.new ≡ D.holds disk.old) × IsTrue (D.up disk.new) }
+    ensures memory { IsErrOf result StoreFault.NoMemory
+        → (D.holds disk.new ≡ D.holds disk.old) × IsTrue (D.up disk.new) }
     ensures counts { CountsStop D.downs D.deads (IsErrOf result StoreFault.Down) disk.old disk.new }
     ensures down { IsErrOf result StoreFault.Down → D.up disk.new ≡ false }
 {
@@ -94,7 +96,8 @@ fn make<D: Disk>(disk: &mut D, size: usize) -> Result<(), StoreFault>
     ensures images { OnOk result ((c : List ℕ) → D.may_leave disk.new c → Closed [] 0 c) }
     ensures up { OnOk result (IsTrue (D.up disk.new)) }
     ensures any_moment { LeavesOnly D.moment D.left_since disk.old disk.new (λ c. length c ≤ 1) }
-    ensures memory { IsErrOf result StoreFault.NoMemory → IsTrue (D.up disk.new) × Tells (D.holds disk.new) (λ c. length c ≤ 1) }
+    ensures memory { IsErrOf result StoreFault.NoMemory
+        → IsTrue (D.up disk.new) × Tells (D.holds disk.new) (λ c. length c ≤ 1) }
     ensures counts { CountsStop D.downs D.deads (IsErrOf result StoreFault.Down) disk.old disk.new }
     ensures down { IsErrOf result StoreFault.Down → D.up disk.new ≡ false }
 {
@@ -123,9 +126,12 @@ pub(crate) fn start<D: Disk>(alloc: Global, disk: &mut D) -> Result<(Vec<Vec<u8>
     ensures records { IfOk result (λ r. Tells (D.holds disk.old) (Stands (contents r.0.items))) }
     ensures file { IfOk result (λ _. D.holds disk.new ≡ of_told opened (D.holds disk.old)) }
     ensures up { OnOk result (IsTrue (D.up disk.new)) }
-    ensures any_moment { LeavesOnly D.moment D.left_since disk.old disk.new (λ c. D.may_leave disk.old c ⊎ SameRecords (D.holds disk.old) c) }
-    ensures none { (at : ℕ) → result ≡ Err (LogFault.NotAJournal at) → Tells (D.holds disk.old) (NoJournal at) × (D.holds disk.new ≡ D.holds disk.old) × IsTrue (D.up disk.new) }
-    ensures memory { result ≡ Err LogFault.NoMemory → IsTrue (D.up disk.new) × Tells (D.holds disk.new) (SameRecords (D.holds disk.old)) }
+    ensures any_moment { LeavesOnly D.moment D.left_since disk.old disk.new
+        (IsAsBefore (D.may_leave disk.old) (D.holds disk.old)) }
+    ensures none { (at : ℕ) → result ≡ Err (LogFault.NotAJournal at)
+        → TellsNone at (D.holds disk.old) × (D.holds disk.new ≡ D.holds disk.old) × IsTrue (D.up disk.new) }
+    ensures memory { result ≡ Err LogFault.NoMemory
+        → IsTrue (D.up disk.new) × Tells (D.holds disk.new) (SameRecords (D.holds disk.old)) }
     ensures counts { CountsStop D.downs D.deads (result ≡ Err LogFault.Down) disk.old disk.new }
     ensures down { result ≡ Err LogFault.Down → D.up disk.new ≡ false }
 {

@@ -1,7 +1,7 @@
 //! Reading a journal as it stands, without opening it.
 ghost use Rattle.std.specs.Prelude.{◌≡◌, ◌⊎◌, ℕ, drop, IfOk, Err, IsTrue, false};
 ghost use Rattle.dap_disk.specs.Disk.{CountsStop, Tells, NoMore, LeavesOnly};
-ghost use Rattle.report_journal.specs.Journal.{NoJournal, Stands};
+ghost use Rattle.report_journal.specs.Journal.{EachFits, NoJournal, Stands};
 ghost use Rattle.report_journal.specs.Log.{contents};
 ghost use Rattle.report_journal.specs.Reading.{StandsIn};
 ghost use Rattle.report_journal.specs.Reader.{as_read};
@@ -46,14 +46,18 @@ pub struct Blocks {
 
 /// Reads the records of a journal that begins at this place of the disk, and counts their blocks. It takes `len` and
 /// `read` alone, so that nothing is written. No byte and a single one stand for no records.
+#[tactic(auto, using(crate::proofs::Sizes::each_fits))]
 pub fn read_blocks<D: Disk>(
     alloc: Global,
     disk: &mut D,
     start: u64,
 ) -> Result<Blocks, ReadOnlyFault>
     requires { IsTrue (D.up disk.old) }
-    ensures records { IfOk result (λ r. Tells (D.holds disk.old) (λ c. StandsIn (contents r.records.items) r.count (drop start c))) }
-    ensures none { (at : ℕ) → result ≡ Err (ReadOnlyFault.NotAJournal at) → Tells (D.holds disk.old) (λ c. NoJournal at (drop start c)) }
+    ensures records { IfOk result (λ r. Tells (D.holds disk.old)
+        (λ c. StandsIn (contents r.records.items) r.count (drop start c))) }
+    ensures fits { IfOk result (λ r. EachFits (contents r.records.items)) }
+    ensures none { (at : ℕ) → result ≡ Err (ReadOnlyFault.NotAJournal at)
+        → Tells (D.holds disk.old) (λ c. NoJournal at (drop start c)) }
     ensures same { D.holds disk.new ≡ D.holds disk.old }
     ensures images { NoMore (D.may_leave disk.old) (D.may_leave disk.new) }
     ensures any_moment { LeavesOnly D.moment D.left_since disk.old disk.new (D.may_leave disk.old) }

@@ -3,7 +3,7 @@ ghost use Rattle.std.specs.Prelude.{◌≡◌, ◌⊎◌, ◌≤◌, ◌<◌, �
 ghost use Rattle.dap_bytes.specs.Causes.{Counts, CountsTries};
 ghost use Rattle.dap_disk.specs.Disk.{Tells, LeavesOnly};
 ghost use Rattle.report_journal.specs.Journal.{Stands};
-ghost use Rattle.report_journal.specs.Log.{Leaves};
+ghost use Rattle.report_journal.specs.Log.{ComesBack, IsDownWith, Leaves};
 ghost use Rattle.report_journal.specs.Retry.{WithOrWithout};
 
 use crate::{Log, RestartFault};
@@ -15,14 +15,16 @@ impl<D: Disk> Log<D> {
     /// block in hand as before.
     pub fn restart_through(&mut self, left: &mut u32) -> Result<(), RestartFault>
         requires { 0 < left.old }
-        ensures used { (left.new ≤ left.old) × CountsTries (left.old - left.new) (D.downs self.old.disk) (D.downs self.new.disk) }
+        ensures used { (left.new ≤ left.old) × CountsTries (left.old - left.new)
+            (D.downs self.old.disk) (D.downs self.new.disk) }
         ensures down { IsErrOf result RestartFault.Down → left.new ≡ 0 }
         ensures borne { IsErrOf result RestartFault.Down ⊎ (0 < left.new) }
-        ensures records { OnOk result (IsTrue self.new.up × ((self.new.records ≡ self.old.records) ⊎ (self.new.records ≡ self.old.records ++ self.old.coming))) }
+        ensures records { OnOk result (ComesBack self.old self.new) }
         ensures told { OnOk result (Tells (D.holds self.new.disk) (Stands self.new.records)) }
         ensures durable { OnOk result ((c : List ℕ) → D.may_leave self.new.disk c → Stands self.new.records c) }
-        ensures any_moment { LeavesOnly D.moment D.left_since self.old.disk self.new.disk (WithOrWithout self.old.records self.old.coming) }
-        ensures same { OnErr result ((self.new.up ≡ false) × (self.new.records ≡ self.old.records) × (self.new.coming ≡ self.old.coming)) }
+        ensures any_moment { LeavesOnly D.moment D.left_since self.old.disk self.new.disk
+            (WithOrWithout self.old.records self.old.coming) }
+        ensures same { OnErr result (IsDownWith self.old.coming self.old self.new) }
         ensures at_rest { OnOk result (self.new.coming ≡ []) }
         ensures images { Leaves D.may_leave self.new }
 

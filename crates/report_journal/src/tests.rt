@@ -1,9 +1,10 @@
 //! Journals on a disk in memory: what they leave, at stops and in files from outside.
-ghost use Rattle.std.specs.Prelude.{◌≡◌, ◌≤◌, ◌+◌, ◌∷◌, [], length, IfOk, IsTrue};
+ghost use Rattle.std.specs.Prelude.{◌≡◌, ◌≤◌, ◌<◌, ◌+◌, ◌∷◌, [], length, take, IfOk, IsTrue};
 ghost use Rattle.report_journal.specs.Journal.{body};
 ghost use Rattle.report_journal.specs.Log.{contents};
 
 use crate::*;
+use dap_bytes::LONGEST_BLOCK;
 use dap_disk::{Disk, Image, MemDisk, Stop};
 use std::alloc::Global;
 use std::process::Abort;
@@ -16,6 +17,15 @@ const ONE: [u8; 14] = [1, 0, 0, 0, 8, 0, 0, 0, 4, 1, 1, 1, 0, 0];
 const TWO: [u8; 29] = [
     1, 0, 0, 0, 8, 0, 0, 0, 4, 1, 1, 1, 0, 1, 0, 0, 0, 10, 0, 0, 0, 2, b'a', b'b', 0, 0, 0, 0, 0,
 ];
+
+/// A journal of format 1 that a lane carried over: its first Open, and that of format 2 of its next opening.
+const CARRIED: [u8; 27] = [
+    1, 0, 0, 0, 8, 0, 0, 0, 4, 1, 1, 1, 0, 1, 0, 0, 0, 8, 0, 0, 0, 4, 1, 2, 1, 0, 0,
+];
+
+/// The journal of a leader's front in format 1, as an independent program made it: four blocks of a record each.
+const OUTSIDE: &[u8] =
+    b"\x01\0\0\0\x07\0\0\0\x03!\x01\x01\x01\0\0\0@\0\0\0<\x22\x01v\0\0\0\0\x03\0\0\x0e\x10\xb8\xec\x9d\x96\xebAwW\x87\x8b\xfe\xd2.\xa8,\xba\xc6\x98\xe8\x06F;\xa2\xe4\xbd\x9f\xa6\xd2\xb9H\xc7\xb4,j\x19\x0c\xf62N\xd9r\xe3\xaa\xd3G\xa2\x88\xfb\x01\0\0\0\x0f\0\0\0\x0b#\x01v\0\0\0\0\0\0\0\0\x01\0\0\0/\0\0\0+$\x01v\0\0\0\0\0\0\0\0\0\0\0\x03\0\0\0\0\0\0\0\x08\xf4\xf0\x8c\xdfJ\xe7\x1b\x14\0\0\0\x08\x0f\x0fs \xb4\x18\xe4\xeb\0";
 
 fn one_record(alloc: Global) -> Result<Vec<Vec<u8>>, Fail>
     ensures { IfOk result (λ r. contents r.items ≡ (1 ∷ 1 ∷ 1 ∷ 0 ∷ []) ∷ []) }
@@ -32,6 +42,14 @@ fn three_records(alloc: Global) -> Result<Vec<Vec<u8>>, Fail>
     records.push([5].to_vec(alloc)?)?;
     records.push(Vec::new(alloc))?;
     records.push([1, 1].to_vec(alloc)?)?;
+    Ok(records)
+}
+
+fn open_of_format_2(alloc: Global) -> Result<Vec<Vec<u8>>, Fail>
+    ensures { IfOk result (λ r. contents r.items ≡ (1 ∷ 2 ∷ 1 ∷ 0 ∷ []) ∷ []) }
+{
+    let mut records = Vec::new(alloc);
+    records.push([1, 2, 1, 0].to_vec(alloc)?)?;
     Ok(records)
 }
 
@@ -103,52 +121,86 @@ fn the_gate_decides(rt: HostRuntime) -> Result<(), Fail> {
     Ok(())
 }
 
-/// How many records of a first block of three are there where the disk stops at a call, once it came back, and once
-/// the journal was opened anew.
+/// How many records there are where the disk stops at a call while a file is opened and takes a block: once it came back,
+/// if the opening was through, and once the journal was opened anew.
 fn found(
     rt: &impl Abort,
     alloc: Global,
-    call: u64,
-    image: Image,
-) -> Result<(usize, Result<usize, LogFault>), Fail> {
-    let mut log = match Log::open(alloc, disk(alloc, &[], &[Stop { call, image }])?) {
+    file: &[u8],
+    block: &[Vec<u8>],
+    stop: Stop,
+) -> Result<(Option<usize>, Result<usize, LogFault>), Fail>
+    requires some { 0 < length block.now }
+    requires size { length (body (contents block.now)) ≤ 16777216 }
+{
+    let mut log = match Log::open(alloc, disk(alloc, file, &[stop])?) {
         Ok(log) => log,
         Err(mut refused) => {
             assert_eq!(rt; refused.fault, LogFault::Down);
             let restarted = refused.disk.restart();
             assert_eq!(rt; restarted, Ok(()));
-            return Ok((0, reads(alloc, refused.disk.bytes())?));
+            return Ok((None, reads(alloc, refused.disk.bytes())?));
         }
     };
-    let records = three_records(alloc)?;
-    assert_eq!(rt; records.len(), 3);
-    let outcome = log.append(alloc, &records);
+    let outcome = log.append(alloc, block);
     assert_eq!(rt; outcome, Err(AppendFault::Down));
     let restarted = log.restart();
     assert_eq!(rt; restarted, Ok(()));
     let count = log.records().len();
     let left = log.into_disk();
-    Ok((count, reads(alloc, left.bytes())?))
+    Ok((Some(count), reads(alloc, left.bytes())?))
 }
+
+/// What a stop may leave, and whether a gate that is written in it is open then.
+const IMAGES: [(Image, bool); 4] = [
+    (Image::Old, false),
+    (Image::New, true),
+    (Image::Fill(1), true),
+    (Image::Fill(7), false),
+];
 
 #[test]
 fn a_block_is_whole_or_absent(rt: HostRuntime) -> Result<(), Fail> {
     let alloc = rt.alloc();
+    let records = three_records(alloc)?;
+    assert_eq!(rt; records.len(), 3);
     for call in 1..9 {
-        for (image, opens) in [
-            (Image::Old, false),
-            (Image::New, true),
-            (Image::Fill(1), true),
-            (Image::Fill(7), false),
-        ] {
+        for (image, opens) in IMAGES {
             let want = if call >= 7 && opens { 3 } else { 0 };
+            let told = if call < 5 { None } else { Some(want) };
             assert_eq!(rt;
-                found(&rt, alloc, call, image)?,
-                (want, Ok(want)),
+                found(&rt, alloc, &[], &records, Stop { call, image })?,
+                (told, Ok(want)),
                 "{call} {image:?}"
             );
         }
     }
+    Ok(())
+}
+
+#[test]
+fn a_journal_of_format_1_is_carried_over_or_as_it_was(rt: HostRuntime) -> Result<(), Fail> {
+    let alloc = rt.alloc();
+    let records = open_of_format_2(alloc)?;
+    assert_eq!(rt; records.len(), 1);
+    for call in 1..8 {
+        for (image, opens) in IMAGES {
+            let want = if call >= 6 && opens { 2 } else { 1 };
+            let told = if call < 4 { None } else { Some(want) };
+            assert_eq!(rt;
+                found(&rt, alloc, &ONE, &records, Stop { call, image })?,
+                (told, Ok(want)),
+                "{call} {image:?}"
+            );
+        }
+    }
+    let Ok(mut log) = Log::open(alloc, disk(alloc, &ONE, &[])?) else {
+        return Err("no journal".into());
+    };
+    let outcome = log.append(alloc, &records);
+    assert_eq!(rt; outcome, Ok(()));
+    let written = log.into_disk();
+    assert_eq!(rt; written.bytes(), CARRIED.as_slice());
     Ok(())
 }
 
@@ -197,11 +249,33 @@ fn a_block_of_the_greatest_size_is_taken(rt: HostRuntime) -> Result<(), Fail> {
     let Ok(mut log) = Log::open(alloc, disk(alloc, &[], &[])?) else {
         return Err("no journal".into());
     };
-    let records = zeros(alloc, MAX_BLOCK - 4)?;
+    let records = zeros(alloc, LONGEST_BLOCK - 4)?;
     let outcome = log.append(alloc, &records);
     assert_eq!(rt; outcome, Ok(()));
     let written = log.into_disk();
-    assert_eq!(rt; written.bytes().len(), MAX_BLOCK + 6);
+    assert_eq!(rt; written.bytes().len(), LONGEST_BLOCK + 6);
+    Ok(())
+}
+
+/// Two records of zeros.
+fn two_records(alloc: Global, n: usize, m: usize) -> Result<Vec<Vec<u8>>, Fail>
+    requires { n ≤ 16777212 }
+    ensures some { IfOk result (λ r. 0 < length r.items) }
+    ensures first { IfOk result (λ r. length (body (contents (take 1 r.items))) ≡ 4 + n) }
+{
+    let mut records = Vec::new(alloc);
+    records.push(vec![in alloc; 0; n]?)?;
+    records.push(vec![in alloc; 0; m]?)?;
+    Ok(records)
+}
+
+#[test]
+fn a_block_takes_all_that_fits(rt: HostRuntime) -> Result<(), Fail> {
+    let alloc = rt.alloc();
+    let whole = two_records(alloc, LONGEST_BLOCK - 12, 4)?;
+    assert_eq!(rt; fitting(&whole), 2);
+    let over = two_records(alloc, LONGEST_BLOCK - 12, 5)?;
+    assert_eq!(rt; fitting(&over), 1);
     Ok(())
 }
 
@@ -239,6 +313,20 @@ fn files_are_read_by_their_gates(rt: HostRuntime) -> Result<(), Fail> {
         (&[1, 1, 0, 0, 1, 0, 0, 0, 0], refused),
     ] {
         assert_eq!(rt; reads(alloc, file)?, want, "{file:?}");
+    }
+    Ok(())
+}
+
+#[test]
+fn a_journal_from_outside_is_opened(rt: HostRuntime) -> Result<(), Fail> {
+    let alloc = rt.alloc();
+    let places = [(9, 12), (21, 81), (90, 101), (110, 153)];
+    let Ok(log) = Log::open(alloc, disk(alloc, OUTSIDE, &[])?) else {
+        return Err("no journal".into());
+    };
+    assert_eq!(rt; log.records().len(), places.len());
+    for (record, (from, to)) in log.records().iter().zip(places) {
+        assert_eq!(rt; Some(record.as_slice()), OUTSIDE.get(from..to));
     }
     Ok(())
 }

@@ -1,8 +1,8 @@
 use dap_bytes::{Bytes, Id, Name};
 use dap_messages::{Code, Half, Report, Step, Tagged, read_report};
 use dap_seal::{
-    CmacSeal, Head, OpenFault, Seal, helper_outcome, leader_item, leader_share, make_report,
-    prep_step,
+    CmacSeal, Head, OpenFault, Seal, helper_outcome, leader_item, leader_share, make_list_report,
+    make_report, prep_step,
 };
 use dap_tasks::{Task, trial};
 use prio3_kinds::Prio3;
@@ -55,10 +55,29 @@ const HISTOGRAM: &str = "\
     fe41944ebdcd3a3e87aeea6098e59aa9fe926bae911200015cf5d70bdc780b77fd992ab1911b6bf3adbf3529ae59feb2\
     7030440451af9e38";
 
-/// The bytes of a report of a task, made by an honest client.
-fn made(alloc: Global, task: &Task, m: u64) -> Result<Vec<u8>, Fail> {
+/// The report of the list 6, 1 for the task `w` of vectors of 2 numbers of 3 bits.
+const VECTOR: &str = "\
+    017700000000000000000000000000000001000000000000000a000000000020f4c5574aaee6cb5cc584ebda4211f27a\
+    29e1e77f4632008a1c200a1553f8715500000180ad73b37c1592634b742201a1ee565d6b99bb8257b24628c587525e01\
+    6f65559f15652db56b6f2756f1e1e69f7d4890e68929a57159f4417ea3a6d4c891ca104fb3e36742604f274a5b5c0b4f\
+    302620312ab4fe62f57d83da08b1af5ae98e32cbdb50edf214237f64478c6b66179e9941b33e045d36369c45076daaae\
+    5c1d5f243b923054900cf0fd51aa7b5b703f2b666c8704723b4b59062d45c11c69e5f306d604a0c503ec4fda5e506d3d\
+    b714970e9f427645d72b2d5951c4d12fb3d64fdcd954f26d62b756cba6383a4284c10c58fb746422eb864608db9a0a3c\
+    6dc64876e020a141b15fb165d9d8cbf914e1e16aff8c325967e616bc16d525c922094f409b7c50ee6baceb170c9156e7\
+    54db93ad41dfe5770ace9ae5934b26610a9123d57f2bae5ddb40eb2b6e848fca3e21fe5682a2d7f33b87dcb0f07c54e6\
+    e8f098097be59808db5c30ce5ed7c6d192b25f55fc71bf80919451026935ea47dafa28321ab670eee1f94603d0b53429\
+    0f4108e9a8817dc633495c651df97abf20a158dd00000040644a957b0b584faac96706cc344675fe1ee3dd1c5b0e5023\
+    dd158752a7dff3706d804e3d1c92f7c00857c40b453bca36e2451a6fc3ff6815b6586c39b9d59abe";
+
+/// The bytes of a report of a task, made by an honest client of a list of numbers; where it has one alone, those that
+/// are made of that number must be the same.
+fn made(rt: &impl Abort, alloc: Global, task: &Task, m: &[u64]) -> Result<Vec<u8>, Fail> {
     let vdaf = Prio3::of(alloc, &task.kind)?;
-    let bytes = make_report(alloc, task, &vdaf, &ONE, 10, m, &ONE).map_err(|_| "a report")?;
+    let bytes = make_list_report(alloc, task, &vdaf, &ONE, 10, m, &ONE).map_err(|_| "a report")?;
+    if let [number] = m {
+        let own = make_report(alloc, task, &vdaf, &ONE, 10, *number, &ONE).map_err(|_| "a report")?;
+        assert_eq!(rt; own.as_slice(), bytes.as_slice());
+    }
     Ok(bytes)
 }
 
@@ -85,8 +104,8 @@ fn opens_whole_alone(
     Ok(true)
 }
 
-fn is_told(rt: &impl Abort, alloc: Global, task: &Task, m: u64, want: &str) -> Result<(), Fail> {
-    let bytes = made(alloc, task, m)?;
+fn is_told(rt: &impl Abort, alloc: Global, task: &Task, m: &[u64], want: &str) -> Result<(), Fail> {
+    let bytes = made(rt, alloc, task, m)?;
     let text = hex::encode(alloc, &bytes)?;
     assert_eq!(rt; text.as_str(), want);
     let report = read_report(alloc, &bytes).map_err(|_| "a report that reads")?;
@@ -107,13 +126,13 @@ fn named(rt: &impl Abort, name: &[u8]) -> Name {
 #[test]
 fn counts_are_reported_byte_by_byte(rt: HostRuntime) -> Result<(), Fail> {
     let task = trial(named(&rt, b"v"), Kind::Count, 3, 3600, None);
-    is_told(&rt, rt.alloc(), &task, 1, COUNT)
+    is_told(&rt, rt.alloc(), &task, &[1], COUNT)
 }
 
 #[test]
 fn sums_are_reported_byte_by_byte(rt: HostRuntime) -> Result<(), Fail> {
     let task = trial(named(&rt, b"s"), Kind::Sum { bits: 8 }, 3, 3600, None);
-    is_told(&rt, rt.alloc(), &task, 200, SUM)
+    is_told(&rt, rt.alloc(), &task, &[200], SUM)
 }
 
 #[test]
@@ -123,7 +142,14 @@ fn histograms_are_reported_byte_by_byte(rt: HostRuntime) -> Result<(), Fail> {
     let kind = Kind::Histogram { bounds };
     assert!(rt; kind.is_valid());
     let task = trial(named(&rt, b"h"), kind, 1, 3600, None);
-    is_told(&rt, alloc, &task, 25, HISTOGRAM)
+    is_told(&rt, alloc, &task, &[25], HISTOGRAM)
+}
+
+#[test]
+fn vectors_are_reported_byte_by_byte(rt: HostRuntime) -> Result<(), Fail> {
+    let kind = Kind::Vector { len: 2, bits: 3 };
+    let task = trial(named(&rt, b"w"), kind, 2, 3600, None);
+    is_told(&rt, rt.alloc(), &task, &[6, 1], VECTOR)
 }
 
 /// What both aggregators say of a report in turn: the helper's first step, the leader's item and its share, and the
@@ -246,6 +272,23 @@ fn histograms_are_said_in_turn(rt: HostRuntime) -> Result<(), Fail> {
         ),
     };
     say(&rt, alloc, &task, &report_in(alloc, HISTOGRAM)?, &want)
+}
+
+#[test]
+fn vectors_are_said_in_turn(rt: HostRuntime) -> Result<(), Fail> {
+    let alloc = rt.alloc();
+    let kind = Kind::Vector { len: 2, bits: 3 };
+    let task = trial(named(&rt, b"w"), kind, 2, 3600, None);
+    let want = Turns {
+        step: Ok(
+            "13af537909d12c46459b54b170bb5bcd188b981b4a2380a2279e4f2ae162c02a\
+            3467df2acdbc07a9fa1c79c6d5892a4029e1e77f4632008a1c200a1553f87155",
+        ),
+        item: Ok("60fc214cf245922001fe4deed779884f"),
+        share: "590e751d86520978db8950c5d8e0ccd4d75a384a94f7778ef1f7840fbaea2f30",
+        outcome: Ok("aef18ae279adf6870876af3a271f332b2ba5c7b56b088871f2077bf04515d0cf"),
+    };
+    say(&rt, alloc, &task, &report_in(alloc, VECTOR)?, &want)
 }
 
 /// The leader's and the helper's sealed share of the report of 1 above.

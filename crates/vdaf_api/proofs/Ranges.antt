@@ -1,6 +1,6 @@
 -- Neighbours that rise: the test of each pair, the definition that computes, and the fact agree; so do the two forms
 -- of the ranges of kinds.
-use Rattle.std.proofs.Common.{◌≡◌, ℕ, zero, suc, ◌<◌, ◌≤◌, List, [], ◌∷◌, length, Bool, true, false, IsTrue, ◌↔◌, sym, ap, ◌∙◌, refl, subst, arith, get_or}
+use Rattle.std.proofs.Common.{◌≡◌, ℕ, zero, suc, ◌*◌, ◌<◌, ◌≤◌, List, [], ◌∷◌, length, Bool, true, false, IsTrue, ◌↔◌, sym, ap, ◌∙◌, refl, subst, arith, get_or}
 use Rattle.std.specs.Prelude.{◌&&◌, nat_le, nat_lt}
 use Rattle.std.specs.List.{IsAllAdjacentAnswer}
 use Rattle.std.specs.List.Sorted.{IsStrictlyIncreasing}
@@ -8,8 +8,8 @@ use Rattle.std.proofs.lemmas.Bool.{and_from, and_parts}
 use Rattle.std.proofs.lemmas.Bool.Decides.{nat_tests}
 use native.Mathlib.Numerals.{add-one}
 use Rattle.vdaf_api.specs.declared.kind.Kind.{Kind}
-use Rattle.vdaf_api.specs.declared.kind.Kind.TheVariants.{Count, Sum, Histogram}
-use Rattle.vdaf_api.specs.declared.kind.TheConstants.{MOST_BITS, MOST_BOUNDS}
+use Rattle.vdaf_api.specs.declared.kind.Kind.TheVariants.{Count, Sum, Histogram, Vector}
+use Rattle.vdaf_api.specs.declared.kind.TheConstants.{MOST_BITS, MOST_BOUNDS, MOST_INPUT, MOST_NUMBER_BITS, MOST_NUMBERS}
 use Rattle.vdaf_api.specs.Kind.{ascends_from, ascends, is_kind, IsKind}
 
 -- each pair of neighbours passes the test
@@ -51,6 +51,12 @@ ascends-answer xs false h = go (ascends xs) refl
     go false e = refl
     go true e = h.2 0 ∙ ap (λ j. nat_lt (get_or xs h.0 0) (get_or xs j 0)) (add-one h.0) ∙ rises-ascends xs e h.0 (omega (arith, h.1))
 
+at_most : (m n : ℕ) → nat_le m n ≡ true → m ≤ n
+at_most m n t = grind (arith, nat_tests)
+
+is_at_most : (m n : ℕ) → m ≤ n → nat_le m n ≡ true
+is_at_most m n h = grind (arith, nat_tests)
+
 -- the two forms of the ranges
 pub is_kind-decides : (kind : Kind) → IsTrue (is_kind kind) ↔ IsKind kind
 is_kind-decides Count = (λ t. tt, λ k. refl)
@@ -69,4 +75,22 @@ is_kind-decides (Histogram bounds) = (
       and_from (nat_le 1 (length bounds) && nat_le (length bounds) MOST_BOUNDS) (ascends bounds)
       (and_from (nat_le 1 (length bounds)) (nat_le (length bounds) MOST_BOUNDS) (grind (arith, nat_tests)) (grind (arith, nat_tests)))
       (ascends-increasing bounds k.ascending)),
+)
+is_kind-decides (Vector len bits) = (
+  λ t. (let all = and_parts (nat_le 1 len && nat_le len MOST_NUMBERS && (nat_le 1 bits && nat_le bits MOST_NUMBER_BITS)) (nat_le (len * bits) MOST_INPUT) t in
+      let sizes = and_parts (nat_le 1 len && nat_le len MOST_NUMBERS) (nat_le 1 bits && nat_le bits MOST_NUMBER_BITS) all.0 in
+      let lens = and_parts (nat_le 1 len) (nat_le len MOST_NUMBERS) sizes.0 in
+      let both = and_parts (nat_le 1 bits) (nat_le bits MOST_NUMBER_BITS) sizes.1 in
+      record {
+        some_numbers = at_most 1 len lens.0;
+        few_numbers = at_most len MOST_NUMBERS lens.1;
+        some_bits = at_most 1 bits both.0;
+        few_bits = at_most bits MOST_NUMBER_BITS both.1;
+        short_input = at_most (len * bits) MOST_INPUT all.1;
+      }),
+  λ k. and_from (nat_le 1 len && nat_le len MOST_NUMBERS && (nat_le 1 bits && nat_le bits MOST_NUMBER_BITS)) (nat_le (len * bits) MOST_INPUT)
+      (and_from (nat_le 1 len && nat_le len MOST_NUMBERS) (nat_le 1 bits && nat_le bits MOST_NUMBER_BITS)
+      (and_from (nat_le 1 len) (nat_le len MOST_NUMBERS) (is_at_most 1 len k.some_numbers) (is_at_most len MOST_NUMBERS k.few_numbers))
+      (and_from (nat_le 1 bits) (nat_le bits MOST_NUMBER_BITS) (is_at_most 1 bits k.some_bits) (is_at_most bits MOST_NUMBER_BITS k.few_bits)))
+      (is_at_most (len * bits) MOST_INPUT k.short_input),
 )

@@ -20,10 +20,10 @@ pub record Parts : Type 0 where
 pub record Functions : Type 0 where
   -- how out shares are spelled
   pub space : Space
-  -- the shares of an identifier, a measurement and a seed
-  pub shard : List ℕ → ℕ → List ℕ → Option Parts
+  -- the shares of an identifier, a measurement, which is a list of numbers, and a seed
+  pub shard : List ℕ → List ℕ → List ℕ → Option Parts
   -- the measurement as a vector; none where it isn't one of the kind
-  pub encoding : ℕ → Option (List ℕ)
+  pub encoding : List ℕ → Option (List ℕ)
   -- whether a half has the form of one, by its role, its public share and its input share: their lengths, and that what spells numbers spells them below the modulus
   pub is_half : Role → List ℕ → List ℕ → Bool
   -- the prep share of a half: role, verify key, identifier, public share, input share

@@ -23,7 +23,7 @@ pub record AddToContent (s : Space) (ours theirs content : List ℕ) : Type 0 wh
 module _ (f : Functions) where
   -- the shares of every measurement are short
   abbrev pub MakesShortParts : Type 0
-  MakesShortParts = (id : List ℕ) (m : ℕ) (seed : List ℕ) (p : Parts) → f.shard id m seed ≡ Some p → PartsAreShort p
+  MakesShortParts = (id ms seed : List ℕ) (p : Parts) → f.shard id ms seed ≡ Some p → PartsAreShort p
 
   -- every prep share is short
   abbrev pub MakesShortShares : Type 0
@@ -43,8 +43,8 @@ module _ (f : Functions) where
 
   -- an honest fair report is ok, and its content is the measurement's vector
   abbrev pub CountsHonestReports : Type 0
-  CountsHonestReports = (key id : List ℕ) (m : ℕ) (seed : List ℕ) (p : Parts) → length key ≡ 16 → length id ≡ 16 → length seed ≡ 16
-      → f.shard id m seed ≡ Some p → f.is_fair key id ≡ true → numbers_of f (verdict f (opened key id p)) ≡ f.encoding m
+  CountsHonestReports = (key id ms seed : List ℕ) (p : Parts) → length key ≡ 16 → length id ≡ 16 → length seed ≡ 16
+      → f.shard id ms seed ≡ Some p → f.is_fair key id ≡ true → numbers_of f (verdict f (opened key id p)) ≡ f.encoding ms
 
   -- the out shares of a verdict that is ok add to its content
   abbrev pub OutSharesAdd : Type 0
@@ -60,7 +60,7 @@ pub record FunctionLaws (f : Functions) : Type 0 where
   pub halves : StartsHalvesAlone f
   pub shares : CombinesSharesAlone f
   pub out : (role : Role) (key id public input message out : List ℕ) → f.out role key id public input message ≡ Some out → IsOut f.space out
-  pub encoding : (m : ℕ) (v : List ℕ) → f.encoding m ≡ Some v → (length v ≡ f.space.size) × Below f.space.modulus v
+  pub encoding : (ms v : List ℕ) → f.encoding ms ≡ Some v → (length v ≡ f.space.size) × Below f.space.modulus v
   -- what has shares is a measurement of the kind
-  pub measured : (id : List ℕ) (m : ℕ) (seed : List ℕ) (p : Parts) → length id ≡ 16 → length seed ≡ 16 → f.shard id m seed ≡ Some p → (v : List ℕ) × (f.encoding m ≡ Some v)
+  pub measured : (id ms seed : List ℕ) (p : Parts) → length id ≡ 16 → length seed ≡ 16 → f.shard id ms seed ≡ Some p → (v : List ℕ) × (f.encoding ms ≡ Some v)
   pub honest : CountsHonestReports f

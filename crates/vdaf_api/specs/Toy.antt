@@ -6,7 +6,7 @@ use Rattle.vdaf_api.specs.declared.space.Space.{Space}
 use Rattle.vdaf_api.specs.declared.role.Role.{Role}
 use Rattle.vdaf_api.specs.declared.answer.Answer.TheVariants.{Sum}
 use Rattle.vdaf_api.specs.declared.toy.TheConstants.{LIMIT, MODULUS}
-use Rattle.vdaf_api.specs.Functions.{Functions, Parts}
+use Rattle.vdaf_api.specs.Functions.{Functions, Parts, ◌>>=◌}
 use Rattle.vdaf_api.specs.Vectors.{when, vector}
 
 -- an out share is one number below 2 ^ 64, in 8 bytes
@@ -38,9 +38,15 @@ toy_leader m seed = (m + (MODULUS - toy_helper seed)) % MODULUS
 abbrev pub toy_parts : ℕ → List ℕ → Parts
 toy_parts m seed = record { public = []; leader = low_bytes 8 (toy_leader m seed); helper = low_bytes 8 (toy_helper seed) }
 
--- the shares of a measurement below 2 ^ 32
-unfoldable pub toy_shard : List ℕ → ℕ → List ℕ → Option Parts
-toy_shard id m seed = when (nat_lt m LIMIT) (Some (toy_parts m seed))
+-- the number of a list of one number below 2 ^ 32; none for another list
+abbrev pub toy_value : List ℕ → Option ℕ
+toy_value [] = None
+toy_value (m ∷ []) = when (nat_lt m LIMIT) (Some m)
+toy_value (m ∷ (n ∷ ms)) = None
+
+-- the shares of such a list
+unfoldable pub toy_shard : List ℕ → List ℕ → List ℕ → Option Parts
+toy_shard id ms seed = toy_value ms >>= λ m. Some (toy_parts m seed)
 
 -- whether a half is one: no public share, and an out share as its input share
 unfoldable pub is_toy_half : Role → List ℕ → List ℕ → Bool
@@ -63,8 +69,8 @@ unfoldable pub toy_out : Role → List ℕ → List ℕ → List ℕ → List �
 toy_out role key id public input message = when (is_empty public && is_toy input) (toy_finish input message)
 
 -- the measurement as a vector
-unfoldable pub toy_encoding : ℕ → Option (List ℕ)
-toy_encoding m = when (nat_lt m LIMIT) (Some (m ∷ []))
+unfoldable pub toy_encoding : List ℕ → Option (List ℕ)
+toy_encoding ms = toy_value ms >>= λ m. Some (m ∷ [])
 
 -- what the toy function computes; every report is fair
 abbrev pub toy_functions : Functions

@@ -2,7 +2,8 @@
 
 use crate::numbers::Numbers;
 
-/// The answer of a sum of measurements: how many are 1, their sum, or how many fell into each bucket.
+/// The answer of a sum of measurements: how many are 1, their sum, how many fell into each bucket, or the sum at each
+/// place of a list.
 #[derive(Debug, PartialEq, Eq, Drop)]
 pub enum Answer {
     /// How many measurements are 1.
@@ -11,6 +12,8 @@ pub enum Answer {
     Sum(u128),
     /// How many measurements fell into each bucket, in order.
     Histogram(Numbers),
+    /// The sums of the measurements' numbers, place by place.
+    Vector(Numbers),
 }
 
 /// A collected batch: how many reports it counts, how many were rejected, and their answer.

@@ -7,7 +7,8 @@ ghost use Rattle.std.specs.Str.{bytes_eq};
 use std::alloc::AllocError;
 use std::marker::Model;
 
-/// How many measurements fell into each bucket of a histogram, in order. Contracts see the list of them.
+/// How many measurements fell into each bucket of a histogram, or the sums of vectors, in order. Contracts see the list
+/// of them.
 #[derive(Debug, Drop)]
 pub struct Numbers {
     items: Vec<u128>,

@@ -152,6 +152,57 @@ fn kinds_keep_their_ranges(rt: HostRuntime) -> Result<(), Fail> {
     Ok(())
 }
 
+// 89 numbers of 23 bits have 2,047 bits together, and 64 numbers of 32 bits have 2,048.
+#[test]
+fn vectors_keep_their_ranges(rt: HostRuntime) {
+    for (len, bits, want) in [
+        (0, 1, false),
+        (1, 0, false),
+        (1, 1, true),
+        (1, 32, true),
+        (1, 33, false),
+        (63, 32, true),
+        (64, 32, false),
+        (89, 23, true),
+        (1023, 2, true),
+        (1024, 1, true),
+        (1024, 2, false),
+        (1025, 1, false),
+        (u16::MAX, u8::MAX, false),
+    ] {
+        let kind = Kind::Vector { len, bits };
+        assert_eq!(rt; kind.is_valid(), want, "{len} numbers of {bits} bits");
+    }
+    assert_eq!(rt;
+        (MOST_NUMBERS, MOST_NUMBER_BITS, MOST_INPUT),
+        (1024, 32, 2047)
+    );
+}
+
+#[test]
+fn the_toy_function_takes_lists_of_one_number(rt: HostRuntime) -> Result<(), Fail> {
+    let alloc = rt.alloc();
+    let toy = Toy::of(alloc, &Kind::Vector { len: 1, bits: 32 })?;
+    for m in [0, 5, 4_294_967_295] {
+        let one = toy
+            .shard(alloc, &[9; 16], m, &[1; 16])
+            .expect(&rt, "shares");
+        let list = toy
+            .shard_list(alloc, &[9; 16], &[m], &[1; 16])
+            .expect(&rt, "shares");
+        assert!(rt; one == list, "at {m}");
+    }
+    for list in [[].as_slice(), [4_294_967_296].as_slice(), [1, 2].as_slice()] {
+        let refused = toy.shard_list(alloc, &[9; 16], list, &[1; 16]);
+        assert!(rt;
+            matches!(refused, Err(ShardFault::BadValue)),
+            "{} numbers",
+            list.len()
+        );
+    }
+    Ok(())
+}
+
 #[test]
 fn bounds_and_numbers_give_back_what_they_were_made_of(rt: HostRuntime) -> Result<(), Fail> {
     let alloc = rt.alloc();
@@ -161,6 +212,11 @@ fn bounds_and_numbers_give_back_what_they_were_made_of(rt: HostRuntime) -> Resul
         bounds.clone()?.into_vec().as_slice(),
         [1, u64::MAX].as_slice()
     );
+    let measurement = Measurement::new([7, u64::MAX].to_vec(alloc)?);
+    assert_eq!(rt; (measurement.len(), measurement.is_empty()), (2, false));
+    assert!(rt; measurement.clone()? == measurement);
+    assert!(rt; measurement != Measurement::new(Vec::new(alloc)));
+    assert_eq!(rt; measurement.into_vec().as_slice(), [7, u64::MAX].as_slice());
     let numbers = Numbers::new([1, u128::MAX].to_vec(alloc)?);
     assert_eq!(rt; (numbers.len(), numbers.is_empty()), (2, false));
     assert!(rt; numbers.clone()? == numbers && numbers != Numbers::new(Vec::new(alloc)));

@@ -1,14 +1,15 @@
 //! A measurement function for tests.
 ghost use Rattle.std.specs.Prelude.{◌≡◌, IfOk, ◌&&◌};
-ghost use Rattle.vdaf_api.specs.Answered.{parts_of};
+ghost use Rattle.vdaf_api.specs.Answered.{parts_of, Shards};
 ghost use Rattle.vdaf_api.specs.Vectors.{SpaceLaws};
-ghost use Rattle.vdaf_api.specs.Toy.{toy_space, toy_functions, toy_finish, toy_parts, is_toy, is_empty};
+ghost use Rattle.vdaf_api.specs.Toy.{toy_space, toy_functions, toy_finish, toy_encoding, toy_parts, toy_shard, toy_value, is_toy, is_empty};
 ghost use Rattle.vdaf_api.specs.ToyLaws.{toy_laws};
 
 use crate::adding::{low, number};
 use crate::answer::Answer;
 use crate::fault::{PrepFault, ShardFault};
 use crate::kind::Kind;
+use crate::list_vdaf::ListVdaf;
 use crate::role::Role;
 use crate::shares::Shares;
 use crate::space::Space;
@@ -16,7 +17,7 @@ use crate::vdaf::Vdaf;
 use dap_bytes::{Bytes, Id};
 use std::alloc::{AllocError, Global};
 
-/// A function for tests of the layers above: a measurement is a number below 2^32, in two plain shares that add to it
+/// A function for tests of the layers above: a measurement is one number below 2^32, in two plain shares that add to it
 /// modulo 2^64. The second share is the seed's first 8 bytes. Prep shares and messages are empty, and each half's out
 /// share is its input share.
 #[derive(Clone, Copy, Debug)]
@@ -57,6 +58,28 @@ fn shares(alloc: Global, m: u64, seed: &[u8; 16]) -> Result<Shares, AllocError>
     })
 }
 
+/// The number of a list of one number below the limit.
+fn value(m: &[u64]) -> Option<u64>
+    ensures { result ≡ toy_value m.now }
+{
+    if m.len() == 1 && m[0] < LIMIT {
+        Some(m[0])
+    } else {
+        None
+    }
+}
+
+/// The shares of a list of numbers.
+#[tactic(auto, unfolding(crate::specs::Toy::toy_shard, crate::specs::Toy::toy_encoding))]
+fn sharded(alloc: Global, id: &Id, m: &[u64], seed: &[u8; 16]) -> Result<Shares, ShardFault>
+    ensures { Shards result (toy_encoding m.now) (toy_shard id.now m.now seed.now) }
+{
+    match value(m) {
+        Some(number) => Ok(shares(alloc, number, seed)?),
+        None => Err(ShardFault::BadValue),
+    }
+}
+
 /// Whether a half's bytes can be prepared.
 fn takes(public: &[u8], input: &[u8]) -> bool
     ensures { result ≡ (is_empty public.now && is_toy input.now) }
@@ -64,7 +87,7 @@ fn takes(public: &[u8], input: &[u8]) -> bool
     public.is_empty() && the_space().is_out(input)
 }
 
-#[tactic(auto, using(crate::specs::ToyLaws::toy_tests), unfolding(crate::specs::Toy::toy_shard, crate::specs::Toy::is_toy_half, crate::specs::Toy::toy_share, crate::specs::Toy::toy_combine, crate::specs::Toy::toy_finish, crate::specs::Toy::toy_out, crate::specs::Toy::toy_encoding))]
+#[tactic(auto, using(crate::specs::ToyLaws::toy_tests), unfolding(crate::specs::Toy::is_toy_half, crate::specs::Toy::toy_share, crate::specs::Toy::toy_combine, crate::specs::Toy::toy_finish, crate::specs::Toy::toy_out))]
 impl Vdaf for Toy {
     type Prep = ToyPrep;
 
@@ -83,13 +106,7 @@ impl Vdaf for Toy {
     }
 
     fn shard(&self, alloc: Global, id: &Id, m: u64, seed: &[u8; 16]) -> Result<Shares, ShardFault> {
-        if m >= LIMIT {
-            return Err(ShardFault::BadValue);
-        }
-        match shares(alloc, m, seed) {
-            Ok(made) => Ok(made),
-            Err(_) => Err(ShardFault::NoMemory),
-        }
+        sharded(alloc, id, &[m], seed)
     }
 
     fn init(
@@ -140,5 +157,17 @@ impl Vdaf for Toy {
     fn answer(&self, alloc: Global, leader: &[u8], helper: &[u8]) -> Result<Answer, AllocError> {
         let numbers = the_space().sum_numbers(alloc, leader, helper)?;
         Ok(Answer::Sum(numbers[0]))
+    }
+}
+
+impl ListVdaf for Toy {
+    fn shard_list(
+        &self,
+        alloc: Global,
+        id: &Id,
+        m: &[u64],
+        seed: &[u8; 16],
+    ) -> Result<Shares, ShardFault> {
+        sharded(alloc, id, m, seed)
     }
 }

@@ -1,5 +1,5 @@
 //! The calls of a measurement function.
-ghost use Rattle.std.specs.Prelude.{◌≡◌, ◌↔◌, ℕ, List, Option, IfOk, IsTrue};
+ghost use Rattle.std.specs.Prelude.{◌≡◌, ◌↔◌, ℕ, List, [], ◌∷◌, Option, IfOk, IsTrue};
 ghost use Rattle.vdaf_api.specs.Kind.{IsKind};
 ghost use Rattle.vdaf_api.specs.Vectors.{IsOut, plus, zero_share};
 ghost use Rattle.vdaf_api.specs.Functions.{Functions};
@@ -39,10 +39,11 @@ pub trait Vdaf: Drop {
         requires { IsKind kind.now }
         ensures { IfOk result (λ v. functions v ≡ of_kind kind.now) };
 
-    /// The shares of a measurement. It is `BadValue` exactly where the measurement isn't one of the kind, and `Spent`
-    /// only where it is and a drawing from the seed is spent. `BadValue` is told however little memory there is.
+    /// The shares of a measurement of one number. It is `BadValue` exactly where the number isn't one of the kind, and
+    /// `Spent` only where it is and a drawing from the seed is spent. `BadValue` is told however little memory there is.
     fn shard(&self, alloc: Global, id: &Id, m: u64, seed: &[u8; 16]) -> Result<Shares, ShardFault>
-        ensures { Shards result ((functions self.now).encoding m) ((functions self.now).shard id.now m seed.now) };
+        ensures { Shards result ((functions self.now).encoding (m ∷ []))
+            ((functions self.now).shard id.now (m ∷ []) seed.now) };
 
     /// Begins to prepare a half under a verify key: its state and its prep share. It is `Invalid` only where there is
     /// none, and then no message gives the half an out share. What hasn't the form of a half is `Invalid` however little

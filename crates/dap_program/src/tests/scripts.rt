@@ -6,7 +6,7 @@ use std::alloc::Global;
 use std::test::Fail;
 
 /// Scripts and what they print.
-const PRINTED: [(&str, &str); 29] = [
+const PRINTED: [(&str, &str); 32] = [
     (
         THREE_REPORTS,
         "collected v 0 reports 3 rejected 0 count 2\n",
@@ -115,6 +115,56 @@ measure s 00000000000000000000000000000003 3599 18446744073709551615 00000000000
 collect s 0
 ",
         "collected s 0 reports 3 rejected 0 sum 55340232221128654845\n",
+    ),
+    // Vectors are summed place by place; a list of another length, and a number of 9 bits, are none of the kind.
+    (
+        "task w vector 3 8 2 3600
+measure w 00000000000000000000000000000001 10 1,2,3 00000000000000000000000000000001
+measure w 00000000000000000000000000000002 20 255,0,4 00000000000000000000000000000002
+measure w 00000000000000000000000000000003 30 1,2 00000000000000000000000000000003
+measure w 00000000000000000000000000000004 40 256,0,0 00000000000000000000000000000004
+collect w 0
+",
+        "refused 4 value
+refused 5 value
+collected w 0 reports 2 rejected 0 vector 256,2,7
+",
+    ),
+    // A list of more than one number is no measurement of another kind.
+    (
+        "task v count 1 3600
+task s sum 8 1 3600
+task h histogram 5 1 3600
+measure v 00000000000000000000000000000001 10 1,0 00000000000000000000000000000001
+measure s 00000000000000000000000000000002 10 1,0 00000000000000000000000000000002
+measure h 00000000000000000000000000000003 10 1,0 00000000000000000000000000000003
+measure x 00000000000000000000000000000004 10 1,0 00000000000000000000000000000004
+collect v 0
+",
+        "refused 4 value
+refused 5 value
+refused 6 value
+refused 7 task
+small v 0 reports 0
+",
+    ),
+    // A vector of one number, and its repeat, conflict and expiry.
+    (
+        "task w vector 1 32 1 10 expires 50
+measure w 00000000000000000000000000000001 1 4294967295 00000000000000000000000000000001
+measure w 00000000000000000000000000000001 1 4294967295 00000000000000000000000000000001
+measure w 00000000000000000000000000000001 1 4294967294 00000000000000000000000000000001
+measure w 00000000000000000000000000000002 9 4294967295 00000000000000000000000000000002
+measure w 00000000000000000000000000000003 9 4294967296 00000000000000000000000000000003
+now 50
+measure w 00000000000000000000000000000004 9 1 00000000000000000000000000000004
+collect w 0
+",
+        "refused 4 conflict
+refused 6 value
+refused 8 expired
+collected w 0 reports 2 rejected 0 vector 8589934590
+",
     ),
     // A bound belongs to the bucket below it.
     (
@@ -347,8 +397,50 @@ fn the_widest_histogram_has_1024_numbers(rt: HostRuntime) -> Result<(), Fail> {
     Ok(())
 }
 
+/// As many times this number as said, at least once, with commas between.
+fn repeated(alloc: Global, number: &str, times: u32) -> Result<String, Fail> {
+    let mut list = String::from_str(alloc, number)?;
+    for _ in 1..times {
+        list.push_str(",")?;
+        list.push_str(number)?;
+    }
+    Ok(list)
+}
+
+#[test]
+fn the_widest_vectors_are_summed(rt: HostRuntime) -> Result<(), Fail> {
+    let alloc = rt.alloc();
+    for (len, bits, number, sum) in [
+        (1024, 1, "1", "2"),
+        (63, 32, "4294967295", "8589934590"),
+        (1023, 2, "3", "6"),
+    ] {
+        let list = repeated(alloc, number, len)?;
+        let sums = repeated(alloc, sum, len)?;
+        let script = format!(in alloc;
+            "task w vector {len} {bits} 2 3600
+measure w 00000000000000000000000000000001 1 {list} 00000000000000000000000000000001
+measure w 00000000000000000000000000000002 2 {list} 00000000000000000000000000000002
+collect w 0
+"
+        )?;
+        let printed = format!(in alloc; "collected w 0 reports 2 rejected 0 vector {sums}\n")?;
+        let done = (0, "done");
+        check_call(
+            &rt,
+            alloc,
+            &["run"],
+            &[],
+            script.as_str(),
+            done,
+            printed.as_str(),
+        )?;
+    }
+    Ok(())
+}
+
 /// Scripts that aren't run, and the status.
-const STOPPED: [(&str, (u8, &str)); 12] = [
+const STOPPED: [(&str, (u8, &str)); 14] = [
     (
         "task v count 3 3600\nmeasur v\n",
         (3, "script refused: line 2"),
@@ -383,6 +475,8 @@ const STOPPED: [(&str, (u8, &str)); 12] = [
         "task v count 1 1 expires 1000000000000000000\n",
         (3, "script refused: line 1"),
     ),
+    ("task w vector 1024 2 1 1\n", (3, "script refused: line 1")),
+    ("task w vector 64 32 1 1\n", (3, "script refused: line 1")),
 ];
 
 #[test]

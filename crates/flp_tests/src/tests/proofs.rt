@@ -4,6 +4,7 @@ ghost use Rattle.flp_proof.specs.Proof.{proof_len};
 use super::elements::{
     between_10_and_20, check_elements, check_flag, check_number, drawn, sized, sized_elements,
 };
+use circuit_vector::VectorCircuit;
 use field_laws::{Field, add_all};
 use field64::Field64;
 use field128::Field128;
@@ -364,7 +365,11 @@ fn sums_128(rt: HostRuntime) -> Result<(), Fail> {
     };
     let sum = Sum::<Field128>::new(3);
     check_proof(&rt, alloc, &sum, honest, FOUR_128)?;
-    check_proof(&rt, alloc, &sum, cheating, FOUR_128)
+    check_proof(&rt, alloc, &sum, cheating, FOUR_128)?;
+    // Three numbers of one bit have the proofs of a sum of three bits.
+    let bits = VectorCircuit::new(3, 1);
+    check_proof(&rt, alloc, &bits, honest, FOUR_128)?;
+    check_proof(&rt, alloc, &bits, cheating, FOUR_128)
 }
 
 #[test]

@@ -1,9 +1,14 @@
 //! Records as values, and their spellings.
 
-use super::{RECORDS, spelling};
-use crate::{Answered, Closed, Outcome, Record, Request, Response, StoredTask};
-use dap_bytes::{Bytes, Name};
-use dap_messages::{Code, Half, Items, JobNo, Reply, Report, Spelled, Step, Tagged};
+use super::{
+    ANSWER_WIDE, ASK_WIDE, EXCHANGE_WIDE, HELPER_TASK_TWO, LEADER_TASK_TWO, RECORDS, VECTOR_TASK,
+    spelling,
+};
+use crate::{Answered, Closed, Format, Outcome, Record, StoredTask};
+use dap_bytes::{Bytes, Name, Span};
+use dap_messages::{
+    Code, Half, Items, JobNo, Reply, Report, ShareReq, ShareResp, Spelled, Step, Tagged,
+};
 use std::alloc::Global;
 use std::test::Fail;
 use vdaf_api::{Bounds, Kind, SealKeys};
@@ -94,16 +99,109 @@ fn halves(alloc: Global) -> Result<Items<Half>, Fail> {
 
 fn task(kind: Kind, min: u32, precision: u32) -> Result<StoredTask, Fail> {
     Ok(StoredTask {
+        format: Format::One,
         name: name(b"v")?,
         kind,
         min,
         precision,
+        expires: None,
         verify: *b"the verify key..",
         keys: SealKeys {
             enc: *b"the cipher key..",
             mac: *b"the key of tags.",
         },
     })
+}
+
+/// The same in format 2.
+fn task_two(kind: Kind, expires: Option<u64>) -> Result<StoredTask, Fail> {
+    let mut one = task(kind, 10, 3600)?;
+    one.format = Format::Two;
+    one.expires = expires;
+    Ok(one)
+}
+
+/// So many bounds: 0 and on.
+fn wide(alloc: Global, count: u64) -> Result<Kind, Fail> {
+    let mut bounds = Vec::new(alloc);
+    for bound in 0..count {
+        bounds.push(bound)?;
+    }
+    Ok(Kind::Histogram {
+        bounds: Bounds::new(bounds),
+    })
+}
+
+/// Tasks of format 2: a sum, a histogram that expires, and a vector.
+fn tasks_two(alloc: Global) -> Result<[Record; 3], Fail> {
+    Ok([
+        Record::LeaderTask(task_two(Kind::Sum { bits: 8 }, None)?),
+        Record::HelperTask(task_two(histogram(alloc, &[5, 9])?, Some(50))?),
+        Record::LeaderTask(task_two(Kind::Vector { len: 3, bits: 8 }, None)?),
+    ])
+}
+
+#[test]
+fn a_task_of_format_2_is_written_field_by_field(rt: HostRuntime) -> Result<(), Fail> {
+    let alloc = rt.alloc();
+    let forms = [LEADER_TASK_TWO, HELPER_TASK_TWO, VECTOR_TASK];
+    for (record, bytes) in tasks_two(alloc)?.iter().zip(forms.iter()) {
+        assert_eq!(rt; spelling(alloc, record)?.as_slice(), *bytes);
+    }
+    Ok(())
+}
+
+/// The records for a batch of three buckets.
+fn wide_records(alloc: Global) -> Result<[Record; 3], Fail> {
+    Ok([
+        Record::Ask(name(b"v")?, batch(3)),
+        Record::LeaderAnswer(name(b"v")?, batch(3), answered(alloc)?),
+        exchange(alloc, 3)?,
+    ])
+}
+
+#[test]
+fn a_batch_of_several_buckets_has_a_form_of_its_own(rt: HostRuntime) -> Result<(), Fail> {
+    let alloc = rt.alloc();
+    let forms = [ASK_WIDE, ANSWER_WIDE, EXCHANGE_WIDE];
+    for (record, bytes) in wide_records(alloc)?.iter().zip(forms.iter()) {
+        assert_eq!(rt; spelling(alloc, record)?.as_slice(), *bytes);
+    }
+    Ok(())
+}
+
+#[test]
+fn only_format_2_has_vectors(rt: HostRuntime) -> Result<(), Fail> {
+    assert!(rt; !task(Kind::Vector { len: 1, bits: 1 }, 1, 1)?.is_allowed());
+    for (len, bits, want) in [
+        (0, 1, false),
+        (1, 0, false),
+        (1, 1, true),
+        (1, 33, false),
+        (63, 32, true),
+        (64, 32, false),
+        (1024, 1, true),
+        (1025, 1, false),
+    ] {
+        let one = task_two(Kind::Vector { len, bits }, None)?;
+        assert_eq!(rt; one.is_allowed(), want, "{len} numbers of {bits} bits");
+    }
+    Ok(())
+}
+
+#[test]
+fn only_format_2_has_many_bounds_and_an_expiry(rt: HostRuntime) -> Result<(), Fail> {
+    let alloc = rt.alloc();
+    let mut one = task(wide(alloc, 63)?, 1, 1)?;
+    assert!(rt; one.is_allowed());
+    one.expires = Some(0);
+    assert!(rt; !one.is_allowed());
+    assert!(rt; !task(wide(alloc, 64)?, 1, 1)?.is_allowed());
+    assert!(rt; task_two(wide(alloc, 64)?, None)?.is_allowed());
+    assert!(rt; task_two(wide(alloc, 1023)?, Some(999_999_999_999_999_999))?.is_allowed());
+    assert!(rt; !task_two(wide(alloc, 1024)?, None)?.is_allowed());
+    assert!(rt; !task_two(Kind::Count, Some(1_000_000_000_000_000_000))?.is_allowed());
+    Ok(())
 }
 
 fn histogram(alloc: Global, bounds: &[u64]) -> Result<Kind, Fail> {
@@ -115,12 +213,12 @@ fn histogram(alloc: Global, bounds: &[u64]) -> Result<Kind, Fail> {
 /// The records of lanes that `RECORDS` begins with, in its order.
 fn lane_records(alloc: Global) -> Result<[Record; 9], Fail> {
     Ok([
-        Record::LeaderOpen(4, 3),
+        Record::LeaderOpen(Format::One, 4, 3),
         Record::Accept(report(alloc)?),
         Record::Continue(name(b"v")?, JOB, steps(alloc)?),
         Record::Finish(JOB, outcomes(alloc)?),
         Record::LeaderClose(name(b"v")?, 3600, closed(alloc)?),
-        Record::HelperOpen(4, 3),
+        Record::HelperOpen(Format::One, 4, 3),
         Record::Start(JOB, name(b"v")?, halves(alloc)?),
         Record::Commit(JOB, outcomes(alloc)?),
         Record::HelperClose(name(b"v")?, 3600, closed(alloc)?),
@@ -136,16 +234,24 @@ fn answered(alloc: Global) -> Result<Answered, Fail> {
     })
 }
 
-fn exchange(alloc: Global) -> Result<Record, Fail> {
-    let request = Request {
-        name: name(b"v")?,
+/// The batch of so many buckets from 3,600 on.
+fn batch(buckets: u8) -> Span {
+    Span {
         start: 3600,
+        buckets,
+    }
+}
+
+fn exchange(alloc: Global, buckets: u8) -> Result<Record, Fail> {
+    let request = ShareReq {
+        name: name(b"v")?,
+        span: batch(buckets),
         count: 2,
         checksum: *b"the checksum of the identifiers.",
     };
-    let response = Response {
+    let response = ShareResp {
         name: name(b"v")?,
-        start: 3600,
+        span: batch(buckets),
         reply: Reply::Share(bytes(alloc, b"two")?),
     };
     Ok(Record::HelperAnswer(request, response))
@@ -154,13 +260,13 @@ fn exchange(alloc: Global) -> Result<Record, Fail> {
 /// The records of fronts that `RECORDS` ends with, in its order.
 fn front_records(alloc: Global) -> Result<[Record; 7], Fail> {
     Ok([
-        Record::LeaderFrontOpen(4),
+        Record::LeaderFrontOpen(Format::One, 4),
         Record::LeaderTask(task(Kind::Sum { bits: 8 }, 10, 3600)?),
-        Record::Ask(name(b"v")?, 3600),
-        Record::LeaderAnswer(name(b"v")?, 3600, answered(alloc)?),
-        Record::HelperFrontOpen(4),
+        Record::Ask(name(b"v")?, batch(1)),
+        Record::LeaderAnswer(name(b"v")?, batch(1), answered(alloc)?),
+        Record::HelperFrontOpen(Format::One, 4),
         Record::HelperTask(task(histogram(alloc, &[5, 9])?, 10, 3600)?),
-        exchange(alloc)?,
+        exchange(alloc, 1)?,
     ])
 }
 
@@ -204,19 +310,36 @@ fn same(alloc: Global, count: u8) -> Result<Items<Outcome>, Fail> {
     Ok(Items::new(items))
 }
 
-/// Other records that no bytes spell.
-fn wrong_records(alloc: Global) -> Result<[Record; 6], Fail> {
-    let long = Closed {
+/// What a lane had of a bucket, with so many bytes of a share.
+fn closed_with(alloc: Global, len: usize) -> Result<Closed, Fail> {
+    let mut share = Vec::new(alloc);
+    for _ in 0..len {
+        share.push(7)?;
+    }
+    Ok(Closed {
         count: 0,
         rejected: 0,
         checksum: [0; 32],
-        share: bytes(alloc, &[0; 16_385])?,
-    };
+        share: Bytes::new(share),
+    })
+}
+
+/// Other records that no bytes spell.
+fn wrong_records(alloc: Global) -> Result<[Record; 8], Fail> {
+    let long = closed_with(alloc, 16_385)?;
     let mut late = report(alloc)?;
     late.time = 1_000_000_000_000_000_000;
     Ok([
         Record::Accept(late),
-        Record::Ask(name(b"v")?, 1_000_000_000_000_000_000),
+        Record::Ask(
+            name(b"v")?,
+            Span {
+                start: 1_000_000_000_000_000_000,
+                buckets: 1,
+            },
+        ),
+        Record::Ask(name(b"v")?, batch(0)),
+        Record::Ask(name(b"v")?, batch(65)),
         Record::LeaderClose(name(b"v")?, 0, long),
         Record::Finish(JOB, same(alloc, 0)?),
         Record::Commit(JOB, same(alloc, 2)?),
@@ -235,5 +358,6 @@ fn values_outside_the_forms_are_told(rt: HostRuntime) -> Result<(), Fail> {
         assert!(rt; !record.is_allowed());
     }
     assert!(rt; Record::Finish(JOB, same(alloc, 1)?).is_allowed());
+    assert!(rt; Record::LeaderClose(name(b"v")?, 0, closed_with(alloc, 16_384)?).is_allowed());
     Ok(())
 }

@@ -1,13 +1,28 @@
 //! Journals of a helper's lane.
 
 use super::made::{
-    Accept, Commit, HelperClose, HelperOpen, HelperTask, LeaderClose, LeaderOpen, Start,
+    Accept, Commit, HelperClose, HelperOpen, HelperOpenTwo, HelperTask, LeaderClose, LeaderOpen,
+    Start,
 };
 use super::{Case, JOB, NEXT, first_wrong};
 use dap_bytes::{Node, Part};
 use std::test::Fail;
 
-const STARTS: [Case; 8] = [
+const OPENS: [Case; 11] = [
+    (&[], None),
+    (&[HelperOpen(2, 1), HelperOpen(2, 1)], None),
+    (&[HelperOpen(2, 1), HelperOpenTwo(2, 1)], None),
+    (&[HelperOpenTwo(2, 1), HelperOpen(2, 1)], Some(1)),
+    (&[HelperOpen(16, 1)], None),
+    (&[HelperOpen(17, 1)], Some(0)),
+    (&[HelperOpen(1, 1)], Some(0)),
+    (&[HelperOpen(2, 0)], Some(0)),
+    (&[HelperOpen(2, 1), HelperOpen(4, 1)], Some(1)),
+    (&[HelperClose(b'v', 0)], Some(0)),
+    (&[HelperClose(b'v', 0), HelperOpen(2, 1)], Some(0)),
+];
+
+const STARTS: [Case; 6] = [
     (
         &[
             HelperOpen(2, 1),
@@ -16,8 +31,6 @@ const STARTS: [Case; 8] = [
         ],
         None,
     ),
-    (&[HelperOpen(17, 1)], Some(0)),
-    (&[HelperOpen(2, 1), HelperOpen(3, 1)], Some(1)),
     (&[Start(JOB, b'v', b"a")], Some(0)),
     (&[HelperOpen(2, 1), Start((0, 1, 0), b'v', b"a")], Some(1)),
     (&[HelperOpen(2, 1), Start(JOB, b'v', b"ab")], Some(1)),
@@ -32,7 +45,7 @@ const STARTS: [Case; 8] = [
     ),
 ];
 
-const COMMITS: [Case; 8] = [
+const COMMITS: [Case; 11] = [
     (
         &[
             HelperOpen(2, 1),
@@ -42,6 +55,30 @@ const COMMITS: [Case; 8] = [
         None,
     ),
     (&[HelperOpen(2, 1), Commit(JOB, b"a", b"")], Some(1)),
+    (
+        &[
+            HelperOpen(2, 1),
+            Start(JOB, b'v', b"a"),
+            Commit((1, 2, 0), b"a", b""),
+        ],
+        Some(2),
+    ),
+    (
+        &[
+            HelperOpen(2, 1),
+            Start(JOB, b'v', b"a"),
+            Commit((0, 1, 0), b"a", b""),
+        ],
+        Some(2),
+    ),
+    (
+        &[
+            HelperOpen(2, 1),
+            Start(JOB, b'v', b"a"),
+            Commit(JOB, b"c", b""),
+        ],
+        Some(2),
+    ),
     (
         &[
             HelperOpen(2, 1),
@@ -128,6 +165,10 @@ const OTHERS: [Case; 4] = [
 #[test]
 fn a_helpers_lane_keeps_its_rules(rt: HostRuntime) -> Result<(), Fail> {
     let alloc = rt.alloc();
+    assert_eq!(rt;
+        first_wrong(alloc, Node::Helper, Part::Lane(1), &OPENS)?,
+        None
+    );
     assert_eq!(rt;
         first_wrong(alloc, Node::Helper, Part::Lane(1), &STARTS)?,
         None

@@ -2,13 +2,19 @@
 
 use super::made::{
     Accept, Continue, Finish, HelperClose, HelperOpen, LateAccept, LeaderClose, LeaderFrontOpen,
-    LeaderOpen, LeaderTask, Start,
+    LeaderOpen, LeaderOpenTwo, LeaderTask, Start,
 };
 use super::{Case, JOB, NEXT, first_wrong};
 use dap_bytes::{Node, Part};
 use std::test::Fail;
 
-const OPENS: [Case; 9] = [
+const OPENS: [Case; 12] = [
+    (
+        &[LeaderOpen(2, 1), LeaderOpenTwo(2, 1), LeaderOpenTwo(2, 1)],
+        None,
+    ),
+    (&[LeaderOpenTwo(2, 1), LeaderOpen(2, 1)], Some(1)),
+    (&[LeaderOpen(2, 1), LeaderOpenTwo(2, 0)], Some(1)),
     (&[], None),
     (&[LeaderOpen(2, 1), LeaderOpen(2, 1)], None),
     (&[LeaderOpen(16, 1)], None),
@@ -130,7 +136,7 @@ const CONTINUES: [Case; 9] = [
     ),
 ];
 
-const FINISHES: [Case; 5] = [
+const FINISHES: [Case; 8] = [
     (
         &[
             LeaderOpen(2, 1),
@@ -158,6 +164,33 @@ const FINISHES: [Case; 5] = [
             Accept(b'v', b'a'),
             Continue(b'v', JOB, b"a"),
             Finish(NEXT, b"a", b""),
+        ],
+        Some(3),
+    ),
+    (
+        &[
+            LeaderOpen(2, 1),
+            Accept(b'v', b'a'),
+            Continue(b'v', JOB, b"a"),
+            Finish((1, 2, 0), b"a", b""),
+        ],
+        Some(3),
+    ),
+    (
+        &[
+            LeaderOpen(2, 1),
+            Accept(b'v', b'a'),
+            Continue(b'v', JOB, b"a"),
+            Finish((0, 1, 0), b"a", b""),
+        ],
+        Some(3),
+    ),
+    (
+        &[
+            LeaderOpen(2, 1),
+            Accept(b'v', b'a'),
+            Continue(b'v', JOB, b"a"),
+            Finish(JOB, b"c", b""),
         ],
         Some(3),
     ),

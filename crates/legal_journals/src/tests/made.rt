@@ -1,13 +1,15 @@
 //! Short descriptions of records.
 
 pub use Made::{
-    Accept, Ask, Commit, Continue, Finish, HelperAnswer, HelperClose, HelperFrontOpen, HelperOpen,
-    HelperTask, LateAccept, LeaderAnswer, LeaderClose, LeaderFrontOpen, LeaderOpen, LeaderTask,
-    Mismatched, Small, Start,
+    Accept, Ask, AskWide, Commit, Continue, Finish, HelperAnswer, HelperAnswerWide, HelperClose,
+    HelperFrontOpen, HelperFrontOpenTwo, HelperOpen, HelperOpenTwo, HelperTask, HelperTaskOf,
+    HelperTaskTwo, LateAccept, LeaderAnswer, LeaderAnswerWide, LeaderClose, LeaderFrontOpen,
+    LeaderFrontOpenTwo, LeaderOpen, LeaderOpenTwo, LeaderTask, LeaderTaskTwo, Mismatched, Others,
+    Small, Start,
 };
-use dap_bytes::{Bytes, Name};
-use dap_messages::{Code, Half, Items, JobNo, Reply, Report, Step, Tagged};
-use lane_records::{Answered, Closed, Outcome, Record, Request, Response, StoredTask};
+use dap_bytes::{Bytes, Name, Span};
+use dap_messages::{Code, Half, Items, JobNo, Reply, Report, ShareReq, ShareResp, Step, Tagged};
+use lane_records::{Answered, Closed, Format, Outcome, Record, StoredTask};
 use std::alloc::Global;
 use std::test::Fail;
 use vdaf_api::{Kind, SealKeys};
@@ -18,7 +20,7 @@ type Job = (u8, u64, u64);
 /// A record of the tests. A name is of one character, and an identifier of one byte, sixteen times.
 #[derive(Clone, Copy)]
 pub enum Made {
-    /// The number of lanes, and its own.
+    /// The number of lanes, and its own, in format 1.
     LeaderOpen(u8, u8),
     /// The name and the identifier.
     Accept(u8, u8),
@@ -31,47 +33,102 @@ pub enum Made {
     /// The name and the start.
     LeaderClose(u8, u64),
     HelperOpen(u8, u8),
+    /// The same in format 2.
+    LeaderOpenTwo(u8, u8),
+    HelperOpenTwo(u8, u8),
+    LeaderFrontOpenTwo(u8),
+    HelperFrontOpenTwo(u8),
     Start(Job, u8, &'static [u8]),
     Commit(Job, &'static [u8], &'static [u8]),
     HelperClose(u8, u64),
     LeaderFrontOpen(u8),
     /// The name and the precision.
     LeaderTask(u8, u32),
+    /// The same of format 2.
+    LeaderTaskTwo(u8, u32),
+    HelperTaskTwo(u8, u32),
     Ask(u8, u64),
+    /// The same for so many buckets.
+    AskWide(u8, u64, u8),
     LeaderAnswer(u8, u64),
+    LeaderAnswerWide(u8, u64, u8),
     HelperFrontOpen(u8),
-    /// The name and the minimum.
+    /// The name and the minimum, with a precision of 60.
     HelperTask(u8, u32),
-    /// The name, the start and the count, with a share.
+    /// The name and the precision, with a minimum of 1.
+    HelperTaskOf(u8, u32),
+    /// The name, the start, the number of buckets and the count, with a share.
+    HelperAnswerWide(u8, u64, u8, u32),
+    /// The same with one bucket.
     HelperAnswer(u8, u64, u32),
-    /// A request for one batch and a reply for another, with a share.
-    Mismatched((u8, u64), (u8, u64)),
+    /// A request for one batch and a reply for another, with a share: each with its name, start and number of buckets.
+    Mismatched((u8, u64, u8), (u8, u64, u8)),
     /// An answer that there are too few.
     Small(u8, u64),
+    /// An answer that there are others.
+    Others(u8, u64),
 }
 
 /// The record that is described.
 pub(super) fn record(alloc: Global, made: Made) -> Result<Record, Fail> {
     match made {
-        LeaderFrontOpen(lanes) => Ok(Record::LeaderFrontOpen(lanes)),
-        LeaderTask(of, precision) => Ok(Record::LeaderTask(task(of, 1, precision)?)),
-        Ask(of, start) => Ok(Record::Ask(name(of)?, start)),
-        LeaderAnswer(of, start) => Ok(Record::LeaderAnswer(name(of)?, start, answered(alloc))),
-        HelperFrontOpen(lanes) => Ok(Record::HelperFrontOpen(lanes)),
-        HelperTask(of, min) => Ok(Record::HelperTask(task(of, min, 60)?)),
+        LeaderFrontOpen(lanes) => Ok(Record::LeaderFrontOpen(Format::One, lanes)),
+        LeaderFrontOpenTwo(lanes) => Ok(Record::LeaderFrontOpen(Format::Two, lanes)),
+        LeaderTask(of, precision) => Ok(Record::LeaderTask(task(Format::One, of, 1, precision)?)),
+        LeaderTaskTwo(of, precision) => {
+            Ok(Record::LeaderTask(task(Format::Two, of, 1, precision)?))
+        }
+        Ask(of, start) => Ok(Record::Ask(name(of)?, batch(start, 1))),
+        AskWide(of, start, buckets) => Ok(Record::Ask(name(of)?, batch(start, buckets))),
+        LeaderAnswer(of, start) => {
+            Ok(Record::LeaderAnswer(name(of)?, batch(start, 1), answered(alloc)))
+        }
+        LeaderAnswerWide(of, start, buckets) => {
+            Ok(Record::LeaderAnswer(name(of)?, batch(start, buckets), answered(alloc)))
+        }
+        HelperFrontOpen(lanes) => Ok(Record::HelperFrontOpen(Format::One, lanes)),
+        HelperFrontOpenTwo(lanes) => Ok(Record::HelperFrontOpen(Format::Two, lanes)),
+        HelperTask(of, min) => Ok(Record::HelperTask(task(Format::One, of, min, 60)?)),
+        HelperTaskOf(of, precision) => Ok(Record::HelperTask(task(Format::One, of, 1, precision)?)),
+        HelperTaskTwo(of, min) => Ok(Record::HelperTask(task(Format::Two, of, min, 60)?)),
         HelperAnswer(of, start, count) => {
             let share = Reply::Share(nothing(alloc));
-            answer((of, start), count, (of, start), share)
+            answer((of, batch(start, 1)), count, (of, batch(start, 1)), share)
         }
-        Mismatched(asked, told) => answer(asked, 9, told, Reply::Share(nothing(alloc))),
-        Small(of, start) => answer((of, start), 9, (of, start), Reply::Small(9)),
+        HelperAnswerWide(of, start, buckets, count) => {
+            let share = Reply::Share(nothing(alloc));
+            answer(
+                (of, batch(start, buckets)),
+                count,
+                (of, batch(start, buckets)),
+                share,
+            )
+        }
+        Mismatched((of, start, buckets), (other, begins, count)) => {
+            let share = Reply::Share(nothing(alloc));
+            answer(
+                (of, batch(start, buckets)),
+                9,
+                (other, batch(begins, count)),
+                share,
+            )
+        }
+        Small(of, start) => {
+            let one = batch(start, 1);
+            answer((of, one), 9, (of, one), Reply::Small(9))
+        }
+        Others(of, start) => {
+            let one = batch(start, 1);
+            answer((of, one), 9, (of, one), Reply::Mismatch(9, [0; 32]))
+        }
         _ => lane_record(alloc, made),
     }
 }
 
 fn lane_record(alloc: Global, made: Made) -> Result<Record, Fail> {
     match made {
-        LeaderOpen(lanes, lane) => Ok(Record::LeaderOpen(lanes, lane)),
+        LeaderOpen(lanes, lane) => Ok(Record::LeaderOpen(Format::One, lanes, lane)),
+        LeaderOpenTwo(lanes, lane) => Ok(Record::LeaderOpen(Format::Two, lanes, lane)),
         Accept(of, id) => accepted(alloc, of, id, 10),
         LateAccept(of, id) => accepted(alloc, of, id, 1_000_000_000_000_000_000),
         Continue(of, number, ids) => continued(alloc, of, number, ids),
@@ -80,7 +137,8 @@ fn lane_record(alloc: Global, made: Made) -> Result<Record, Fail> {
             Ok(Record::Finish(job(number), outs))
         }
         LeaderClose(of, start) => Ok(Record::LeaderClose(name(of)?, start, closed(alloc))),
-        HelperOpen(lanes, lane) => Ok(Record::HelperOpen(lanes, lane)),
+        HelperOpen(lanes, lane) => Ok(Record::HelperOpen(Format::One, lanes, lane)),
+        HelperOpenTwo(lanes, lane) => Ok(Record::HelperOpen(Format::Two, lanes, lane)),
         Start(number, of, ids) => started(alloc, number, of, ids),
         Commit(number, finished, failed) => {
             let outs = outcomes(alloc, finished, failed)?;
@@ -105,6 +163,11 @@ pub(super) fn job(number: Job) -> JobNo {
         incarnation,
         counter,
     }
+}
+
+/// The batch of so many buckets from a start on.
+fn batch(start: u64, buckets: u8) -> Span {
+    Span { start, buckets }
 }
 
 fn nothing(alloc: Global) -> Bytes {
@@ -185,12 +248,14 @@ fn answered(alloc: Global) -> Answered {
     }
 }
 
-fn task(of: u8, min: u32, precision: u32) -> Result<StoredTask, Fail> {
+fn task(format: Format, of: u8, min: u32, precision: u32) -> Result<StoredTask, Fail> {
     Ok(StoredTask {
+        format,
         name: name(of)?,
         kind: Kind::Count,
         min,
         precision,
+        expires: None,
         verify: [0; 16],
         keys: SealKeys {
             enc: [0; 16],
@@ -200,16 +265,16 @@ fn task(of: u8, min: u32, precision: u32) -> Result<StoredTask, Fail> {
 }
 
 /// A request with a count, and what was replied.
-fn answer(asked: (u8, u64), count: u32, told: (u8, u64), reply: Reply) -> Result<Record, Fail> {
-    let request = Request {
+fn answer(asked: (u8, Span), count: u32, told: (u8, Span), reply: Reply) -> Result<Record, Fail> {
+    let request = ShareReq {
         name: name(asked.0)?,
-        start: asked.1,
+        span: asked.1,
         count,
         checksum: [0; 32],
     };
-    let response = Response {
+    let response = ShareResp {
         name: name(told.0)?,
-        start: told.1,
+        span: told.1,
         reply,
     };
     Ok(Record::HelperAnswer(request, response))

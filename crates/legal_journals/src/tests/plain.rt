@@ -3,7 +3,7 @@
 use dap_batch::lane_of;
 use dap_bytes::{Id, Name, Node};
 use dap_messages::{JobNo, Spelled, Tagged};
-use lane_records::{MOST_LANES, Outcome, Record};
+use lane_records::{Format, MOST_LANES, Outcome, Record};
 
 /// The place of the first record of a lane's journal that may not follow those before it.
 pub(super) fn first_refused(node: Node, lane: u8, records: &[Record]) -> Option<u64> {
@@ -27,7 +27,7 @@ fn may(node: Node, lane: u8, x: &Record, earlier: &[Record]) -> bool {
 /// How many lanes an Open of a lane names.
 fn opens(x: &Record) -> Option<u8> {
     match x {
-        Record::LeaderOpen(lanes, _) | Record::HelperOpen(lanes, _) => Some(*lanes),
+        Record::LeaderOpen(_, lanes, _) | Record::HelperOpen(_, lanes, _) => Some(*lanes),
         _ => None,
     }
 }
@@ -39,6 +39,15 @@ fn may_open(lane: u8, lanes: u8, own: u8, earlier: &[Record]) -> bool {
         && lane < lanes
 }
 
+fn has_format(format: Format, earlier: &[Record]) -> bool {
+    earlier.iter().all(|y| match y {
+        Record::LeaderOpen(other, _, _) | Record::HelperOpen(other, _, _) => {
+            other.byte() <= format.byte()
+        }
+        _ => true,
+    })
+}
+
 fn is_of_lane(lane: u8, id: &Id, earlier: &[Record]) -> bool {
     earlier.iter().any(|y| match opens(y) {
         Some(lanes) => 0 < lanes && lane_of(id, lanes) == lane,
@@ -48,7 +57,9 @@ fn is_of_lane(lane: u8, id: &Id, earlier: &[Record]) -> bool {
 
 fn leader_may(lane: u8, x: &Record, earlier: &[Record]) -> bool {
     match x {
-        Record::LeaderOpen(lanes, own) => may_open(lane, *lanes, *own, earlier),
+        Record::LeaderOpen(format, lanes, own) => {
+            has_format(*format, earlier) && may_open(lane, *lanes, *own, earlier)
+        }
         Record::Accept(report) => {
             is_of_lane(lane, &report.id, earlier) && !accepts(&report.name, &report.id, earlier)
         }
@@ -101,7 +112,9 @@ fn same_ids<A, B>(left: &[Tagged<A>], right: &[Tagged<B>]) -> bool {
 
 fn helper_may(lane: u8, x: &Record, earlier: &[Record]) -> bool {
     match x {
-        Record::HelperOpen(lanes, own) => may_open(lane, *lanes, *own, earlier),
+        Record::HelperOpen(format, lanes, own) => {
+            has_format(*format, earlier) && may_open(lane, *lanes, *own, earlier)
+        }
         Record::Start(job, _, halves) => {
             job.lane == lane
                 && halves

@@ -1,4 +1,5 @@
 use super::steps::{ID, Stage, check_input, is_invalid};
+use circuit_vector::VectorCircuit;
 use field64::Field64;
 use field128::Field128;
 use flp_circuits::{Circuit, Count, Histogram, Sum};
@@ -47,6 +48,23 @@ fn what_is_no_encoding_is_refused(rt: HostRuntime) -> Result<(), Fail> {
         ([2, LAST_128], Stage::Combine),
     ] {
         check_input(&rt, alloc, &histogram, 2, &numbers, wanted)?;
+    }
+    Ok(())
+}
+
+// Two numbers of two bits each: every bit is one, also of the second number.
+#[test]
+fn what_is_no_list_is_refused(rt: HostRuntime) -> Result<(), Fail> {
+    let alloc = rt.alloc();
+    let vector = VectorCircuit::new(2, 2);
+    for (numbers, wanted) in [
+        ([0, 0, 0, 0], Stage::Prepared),
+        ([1, 1, 1, 1], Stage::Prepared),
+        ([2, 0, 0, 0], Stage::Combine),
+        ([0, 2, 0, 0], Stage::Combine),
+        ([1, 1, 1, LAST_128], Stage::Combine),
+    ] {
+        check_input(&rt, alloc, &vector, 3, &numbers, wanted)?;
     }
     Ok(())
 }

@@ -3,11 +3,12 @@ ghost use Rattle.vdaf_api.specs.Kind.{AreBounds};
 
 use aes_block::Key;
 use aes_cmac_prg::cmac;
+use circuit_vector::VectorCircuit;
 use field_laws::Field;
 use field64::Field64;
 use field128::Field128;
 use flp_circuits::{Circuit, Count, Histogram, Sum};
-use prio3_share::{shard, shard_input};
+use prio3_share::{shard, shard_input, shard_list};
 use std::alloc::Global;
 use std::process::Abort;
 use std::test::Fail;
@@ -130,7 +131,7 @@ fn checked(rt: &impl Abort, bounds: Bounds) -> Bounds
     assert!(rt; kind.is_valid());
     match kind {
         Kind::Histogram { bounds } => bounds,
-        Kind::Count | Kind::Sum { .. } => panic!(rt; "not a histogram"),
+        Kind::Count | Kind::Sum { .. } | Kind::Vector { .. } => panic!(rt; "not a histogram"),
     }
 }
 
@@ -165,6 +166,23 @@ fn histograms_are_shared_as_computed_elsewhere(rt: HostRuntime) -> Result<(), Fa
         631,
         largest,
     )
+}
+
+#[test]
+fn vectors_are_shared_as_computed_elsewhere(rt: HostRuntime) -> Result<(), Fail> {
+    let vector = VectorCircuit::new(3, 8);
+    let shares = shard_list(rt.alloc(), &vector, 3, &first(), &[1, 2, 3], &first())?;
+    let expected = Expected {
+        public: (32, 0x12135276ce8f9377ae693e0bb5256903),
+        leader: (1424, 0xb3c339e548cc51d6d4b3d1203e88a4cf),
+        helper: (48, 0x10b4c08f63cf845fec127c61c6ed7423),
+    };
+    check_shares(&rt, &shares, expected);
+    for list in [[1, 2].as_slice(), [1, 2, 256].as_slice()] {
+        let refused = shard_list(rt.alloc(), &vector, 3, &first(), list, &first());
+        assert!(rt; matches!(refused, Err(ShardFault::BadValue)));
+    }
+    Ok(())
 }
 
 fn check_fault<C: Circuit>(

@@ -9,3 +9,6 @@ returns-clause-sum c bits n = refl
 
 pub returns-clause-histogram : goal.returns-clause-histogram
 returns-clause-histogram c bounds v = refl
+
+pub returns-clause-vector : goal.returns-clause-vector
+returns-clause-vector c len bits v = refl

@@ -1,4 +1,5 @@
 use Rattle.std.proofs.Common.{◌≡◌, ◌≤◌, ◌-◌, length, take}
+use Rattle.dap_bytes.specs.declared.limits.TheConstants.{LONGEST_BLOCK}
 use Rattle.report_journal.specs.Journal.{body}
 use Rattle.report_journal.specs.Log.{contents}
 use Rattle.report_journal.proofs.packing.fitting.Given as goal
@@ -7,7 +8,7 @@ abbrev pub invariant-loop-n : goal.invariant-loop-n
 invariant-loop-n l = record {
   within : l.n ≤ length l.records;
   sized : l.size ≡ length (body (contents (take l.n l.records)));
-  small : l.size ≤ 16777216;
+  small : l.size ≤ LONGEST_BLOCK;
 }
 
 abbrev pub decreases-loop-n : goal.decreases-loop-n

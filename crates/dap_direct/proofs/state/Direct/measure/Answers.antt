@@ -29,14 +29,14 @@ returns g c =
     let name = c.args.name.now in
     let it = c.args.given.now in
     let bytes = c.deref.result.now in
-    let made : AreBytesOf task.name (honest_report own task it.id it.time it.value it.seed) bytes =
-    subst (λ bytes. AreBytesOf task.name (honest_report own task it.id it.time it.value it.seed) bytes) (sym c.deref.ensures.value) (rw c.in-Some-2.is at c.in_ok-bytes.ensures) in
-    let is = ap (λ (h : Functions). honest_report h task it.id it.time it.value it.seed) (sym c.in-Some.ensures.of_kind) ∙ made.is in
+    let made : AreBytesOf task.name (honest_report own task it.id it.time it.value.now it.seed) bytes =
+    subst (λ bytes. AreBytesOf task.name (honest_report own task it.id it.time it.value.now it.seed) bytes) (sym c.deref.ensures.value) (rw c.in-Some-2.is at c.in_ok-bytes.ensures) in
+    let is = ap (λ (h : Functions). honest_report h task it.id it.time it.value.now it.seed) (sym c.in-Some.ensures.of_kind) ∙ made.is in
     let found = sym c.in-Some.ensures.task in
     IfOk-map c.upload_to.result _ _ c.upload_to.ensures
     (λ printed up. record {
-      outcome = up.outcome tasks ∙ measure-upload f (state_of tasks c.args.self.now) c.args.line name it.id it.time it.value it.seed bytes task made.made found is made.read;
+      outcome = up.outcome tasks ∙ measure-upload f (state_of tasks c.args.self.now) c.args.line name it.id it.time it.value.now it.seed bytes task made.made found is made.read;
       at = up.at;
       sums = keeps_all f tasks task c.args.self.now c.upload_to.new.self (found_own name tasks task found) c.requires.may_run.sums up.sums;
-      counted = up.counted ∙ ap (λ r. with_report r c.args.self.now.offered) (measure-offers f tasks name it.id it.time it.value it.seed bytes task made.made found is made.read);
+      counted = up.counted ∙ ap (λ r. with_report r c.args.self.now.offered) (measure-offers f tasks name it.id it.time it.value.now it.seed bytes task made.made found is made.read);
     })

@@ -1,23 +1,16 @@
-use Rattle.std.proofs.Common.{◌≡◌, ℕ, zero, suc, ◌<◌, List, [], ◌∷◌, length, map, get_or, sym, ◌∙◌, subst, arith, refl}
+use Rattle.std.proofs.Common.{◌≡◌, map, sym, ◌∙◌, subst, arith, refl}
 use Rattle.std.specs.Vec.{with_items}
 use Rattle.std.proofs.lemmas.Grind.{common_steps}
 use Rattle.std.proofs.lemmas.List.{with_items_is}
-use Rattle.std.proofs.lemmas.List.Edits.{map_over_more}
-use Rattle.job_leases.specs.declared.job.OpenJob.{OpenJob}
 use Rattle.job_leases.specs.Jobs.{AreDistinct, unleased}
+use Rattle.job_leases.proofs.Each.{each-more}
 use Rattle.job_leases.proofs.Numbers.{distinct-map}
 use Rattle.job_leases.proofs.leases.Leases.end_all.Goals as goal
 
-by_any_default : (js : List OpenJob) (i : ℕ) (d e : OpenJob) → i < length js → get_or js i d ≡ get_or js i e
-by_any_default [] i d e h = absurd (omega arith)
-by_any_default (j ∷ js) zero d e h = refl
-by_any_default (j ∷ js) (suc i) d e h = by_any_default js i d e (omega arith)
-
 pub loop-open-preserved : goal.loop-open-preserved
 loop-open-preserved c =
-    map_over_more unleased c.deref_mut-open-items.result.now c.loop-open.open-items c.loop-open.open-index (get_or c.loop-open.open-items c.loop-open.open-index _)
-    c.loop-open-test.true c.loop-open.invariant
-    (by_any_default c.loop-open.open-items c.loop-open.open-index _ _ (omega (arith, c.loop-open.auto.open-items)))
+    each-more unleased c.deref_mut-open-items.result.now c.loop-open.open-items c.loop-open.open-index _ c.loop-open-test.true
+    (omega (arith, c.loop-open.auto.open-items)) c.loop-open.invariant
 
 pub invariant_of-self : goal.invariant_of-self
 invariant_of-self c =

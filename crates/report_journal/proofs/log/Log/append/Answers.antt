@@ -1,10 +1,27 @@
-use Rattle.std.proofs.Common.{◌≡◌, ◌⊎◌, ◌++◌, ℕ, ◌+◌, List, [], ◌∷◌, Some, ap, ◌∙◌, subst}
+use Rattle.std.proofs.Common.{◌≡◌, ◌⊎◌, ◌++◌, ℕ, ◌+◌, List, [], ◌∷◌, Some, Vec, length, drop, ap, sym, ◌∙◌, subst, arith}
+use Rattle.std.proofs.lemmas.List.{drop_at}
+use Rattle.std.specs.declared.alloc.Global.{Global}
 use Rattle.dap_disk.specs.Disk.{LeavesOnly, of_told, written}
-use Rattle.report_journal.specs.Journal.{Closed, Stands, with_block}
+use Rattle.report_journal.specs.Journal.{Closed, Stands, behind, with_block}
 use Rattle.report_journal.specs.Log.{contents, LogView}
 use Rattle.report_journal.proofs.Appends.{both_writes}
-use Rattle.report_journal.proofs.Logs.{append_run}
+use Rattle.report_journal.proofs.Logs.{append_run, appended_log}
 use Rattle.report_journal.proofs.log.Log.append.Goals as goal
+
+pub invariant_of-self-in-Ok : goal.invariant_of-self-in-Ok
+invariant_of-self-in-Ok g c =
+    let disk = g.D.Disk in
+    let up = ap (λ (v : LogView g.row.D.Denot). v.up) c.self.view_is ∙ c.requires.up in
+    let n = c.self.inside.durable in
+    let kept = c.keep_copies.new.held.items in
+    let copies = c.in_ok-keep_copies.ensures.ok in
+    let later : contents (drop n kept) ≡ contents c.args.records.now =
+    ap (λ (l : List (Vec ℕ Global)). contents (drop n l)) copies.1 ∙ ap (λ (l : List (Vec ℕ Global)). contents l) (drop_at c.self.inside.records.items copies.0 n (sym (c.self.invariant.all up))) ∙ copies.2 in
+    let written_len : length c.in_ok-bytes.bytes.items ≡ length (behind (contents c.args.records.now)) = ap length c.in_ok-bytes.ensures in
+    let turned : length (behind (contents c.args.records.now)) ≡ length (behind (contents (drop n kept))) = ap (λ (k : List (List ℕ)). length (behind k)) (sym later) in
+    let size : c.len-size.result ≡ length (behind (contents (drop n kept))) = omega (arith, c.len-size.ensures, written_len, turned) in
+    appended_log disk.holds disk.up disk.may_leave c.write_block.new.disk kept c.deref.result.now n c.len-self-inside.result c.self.inside.gate c.len-size.result c.self.inside.up
+    c.deref.ensures.value (omega (arith, c.len-self-inside.ensures)) (omega (arith, c.if-gate-size.false)) size c.in-Ok.ensures.up c.in-Ok.ensures.held c.in-Ok.ensures.durable
 
 pub returns-in-Ok-clause-file : goal.returns-in-Ok-clause-file
 returns-in-Ok-clause-file g c =
