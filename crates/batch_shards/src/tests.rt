@@ -132,7 +132,7 @@ fn a_batch_with_room_is_added_to_in_place(rt: HostRuntime) -> Result<(), Fail> {
     buckets.reject_in_place(&name, 0);
     buckets.close_in_place(&name, 0);
     let total = buckets.total(&toy, &name, 0)?;
-    assert_eq!(rt; total.as_slice(), [7, 0, 0, 0, 0, 0, 0, 0].as_slice());
+    assert_eq!(rt; total.as_slice(), out.as_slice());
     assert_eq!(rt; buckets.reject(&name, 0), Err(BucketFault::Closed));
     buckets.reject(&name, 3600)?;
     Ok(())
