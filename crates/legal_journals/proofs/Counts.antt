@@ -6,7 +6,9 @@ use Rattle.std.proofs.lemmas.List.Sums.{sum_by-cons}
 use Rattle.std.specs.Option.{option_or}
 use Rattle.lane_records.specs.declared.format.Format.{Format}
 use Rattle.lane_records.specs.declared.format.Format.TheVariants.{One, Two}
+use Rattle.dap_messages.specs.declared.report.Report.{Report}
 use Rattle.lane_records.specs.declared.record.Record.{Record}
+use Rattle.lane_records.specs.declared.record.Record.TheVariants.{Accept}
 use Rattle.legal_journals.specs.declared.opens.Opens.{Opens}
 use Rattle.legal_journals.specs.History.{first, lanes_in, format_in}
 use Rattle.legal_journals.specs.HistoryTests.{is_open, is_up_to, has_format}
@@ -82,6 +84,16 @@ one_less o p records x count opens twos none some h =
     by_count (suc n) e left =
         let one : 1 ≤ count_by is_open records = omega arith in
         some (omega arith) ∙ h.lanes ∙ some_lanes records x one
+
+-- without an Accept
+pub accept_less : (o : Opens) (records : List Record) (r : Report) (n : ℕ) → n ≡ o.count - 1 → AreOpens o (records ++ Accept r ∷ [])
+    → AreOpens (record { count = n; opens = o.opens; twos = o.twos; lanes = o.lanes }) records
+accept_less o records r n count h = record {
+  count = count ∙ less o.count (length records) 1 (h.count ∙ length-append records (Accept r ∷ []));
+  opens = (let c = count-push is_open records (Accept r) in let e = h.opens in omega (arith, c, e));
+  twos = (let c = count-push opens_two records (Accept r) in let e = h.twos in omega (arith, c, e));
+  lanes = h.lanes ∙ first-push lanes_in records (Accept r) ∙ or_none (first lanes_in records);
+}
 
 -- ---- formats
 

@@ -9,7 +9,7 @@ use Rattle.std.proofs.lemmas.Map.Text.{is_eq-slice_cmp}
 use Rattle.dap_messages.specs.Jobs.{is_same_job}
 use Rattle.legal_journals.specs.Reports.{Report, Batch, Job, job_of, report_order, batch_order, job_order}
 
-then-eq : (r s : Ordering) → is_eq (ordering_then r s) ≡ (is_eq r && is_eq s)
+pub then-eq : (r s : Ordering) → is_eq (ordering_then r s) ≡ (is_eq r && is_eq s)
 then-eq Less s = refl
 then-eq Equal s = refl
 then-eq Greater s = refl
@@ -17,7 +17,7 @@ then-eq Greater s = refl
 both : {a b c d : Bool} → a ≡ b → c ≡ d → (a && c) ≡ (b && d)
 both {a} {b} {c} {d} e f = ap (λ x. x && c) e ∙ ap (λ x. b && x) f
 
-nat_cmp-eq : (m n : ℕ) → is_eq (nat_cmp m n) ≡ (m == n)
+pub nat_cmp-eq : (m n : ℕ) → is_eq (nat_cmp m n) ≡ (m == n)
 nat_cmp-eq m n = sym (unsigned_ties m n)
 
 pub report-ties : (a b : Report) → is_eq (report_order a b) ≡ (bytes_eq a.0 b.0 && bytes_eq a.1 b.1)

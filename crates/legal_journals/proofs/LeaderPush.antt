@@ -121,6 +121,9 @@ module _ (i : LeaderIndex) (records : List Record) (o : Opens) where
 
 -- ---- without the last
 
+pub same_key : (r : Told) (n id : List ℕ) → r.name ≡ n → r.id ≡ id → (let k : Report = (n, id) in k) ≡ (r.name, r.id)
+same_key r n id a b = ap (λ (m : List ℕ). let k : Report = (m, id) in k) (sym a) ∙ ap (λ (i : List ℕ). let k : Report = (r.name, i) in k) (sym b)
+
 module _ (i : LeaderIndex) (records : List Record) (o : Opens) (opens : AreOpens o records) where
   pub accept_less : (r : Told) (new : List (Report × ℕ)) → LeaderIndexes i (records ++ Accept r ∷ [])
       → ((q : Report) → at report_order q new ≡ without o.count (is_eq (report_order (r.name, r.id) q)) (at report_order q i.accepted))

@@ -20,6 +20,8 @@ pub mod Nexts
 pub mod Once
 pub mod OpenTests
 pub mod Order
+pub mod Parts
 pub mod Results
 pub mod Waits
 pub mod Walks
+pub mod Words

@@ -1,51 +1,50 @@
 -- Lemmas: the oldest report that waits.
-use Rattle.std.proofs.Common.{◌≡◌, ℕ, ◌≤◌, true, false, List, Option, Some, None, bytes_eq, refl, sym, ap, subst, ◌∙◌}
-use Rattle.std.proofs.lemmas.Slice.Eq.{bytes_eq-Decides}
+use Rattle.std.proofs.Common.{◌≡◌, ℕ, ◌≤◌, Bool, not, ◌&&◌, cond, List, Option, Some, None, refl, sym, ap, subst, ◌∙◌}
 use Rattle.std.specs.Option.{IsSome}
-use Rattle.std.specs.List.{list_any}
+use Rattle.std.specs.declared.cmp.Ordering.{Ordering}
+use Rattle.std.specs.declared.cmp.Ordering.TheVariants.{Equal}
+use Rattle.std.specs.Ordering.{is_eq}
+use Rattle.std.specs.Cmp.{IsTotalOrder}
+use Rattle.std.proofs.lemmas.Cmp.{tied_back}
 use Rattle.std.specs.BTreeMap.Range.{IsLeBy}
-use Rattle.dap_messages.specs.declared.report.Report.{Report as Told}
+use Rattle.dap_messages.specs.declared.report.Report.{Report}
 use Rattle.lane_records.specs.declared.record.Record.{Record}
-use Rattle.legal_journals.specs.LaneTests.{continues_report}
 use Rattle.legal_journals.specs.declared.waiting.Waiting.{Waiting}
 use Rattle.legal_journals.specs.Accepts.{accept_at}
-use Rattle.legal_journals.specs.Waiting.{Waits}
-use Rattle.legal_journals.specs.Reports.{Batch, batch_order}
+use Rattle.legal_journals.specs.Waiting.{place_order, waits_at, waits_under, Waits}
 use Rattle.legal_journals.specs.Tables.{at}
 use Rattle.legal_journals.proofs.Order.{le_place, place_le, between}
 
 -- what the table tells of the least key
-abbrev pub IsNext : List (Batch × List ℕ) → List ℕ → ℕ → Batch × List ℕ → Type 0
-IsNext entries n from e =
-    IsLeBy batch_order (n, from) e.0 × (at batch_order e.0 entries ≡ Some e.1) × ((q : Batch) → IsLeBy batch_order (n, from) q → IsSome (at batch_order q entries) → IsLeBy batch_order e.0 q)
+abbrev pub IsNext : {G : Type 0} → (G → G → Ordering) → List ((G × ℕ) × List ℕ) → G → ℕ → (G × ℕ) × List ℕ → Type 0
+IsNext {G} order entries g from e =
+    IsLeBy (place_order order) (g, from) e.0 × (at (place_order order) e.0 entries ≡ Some e.1)
+    × ((q : G × ℕ) → IsLeBy (place_order order) (g, from) q → IsSome (at (place_order order) q entries) → IsLeBy (place_order order) e.0 q)
 
--- a report that waits has its entry under the name
-entry : (w : Waiting) (records settled : List Record) (n : List ℕ) (p : ℕ) (r : Told) → Waits w records settled → accept_at p records ≡ Some r → r.name ≡ n → list_any (continues_report r.name r.id) settled ≡ false
-    → at batch_order (n, p) w.reports ≡ Some r.id
-entry w records settled n p r h e named free = ap (λ (m : List ℕ). at batch_order (m, p) w.reports) (sym named) ∙ h.kept p r e free
+module _ {G : Type 0} {order : G → G → Ordering} (total : IsTotalOrder order) (of : Report → G) (settled : ℕ → Bool) (w : Waiting G) (records : List Record) where
+  -- the same waits in groups that tie
+  alike : (g m : G) → order m g ≡ Equal → (done : Bool) (o : Option Report) → waits_under order of m done o ≡ waits_under order of g done o
+  alike g m tie done None = refl
+  alike g m tie done (Some r) = ap (λ c. cond (is_eq c && not done) (Some r.id) None) (total.congr m g (of r) tie)
 
-pub none_waits : (w : Waiting) (records settled : List Record) (n : List ℕ) (from p : ℕ) (r : Told) → ((q : Batch) → IsLeBy batch_order (n, from) q → at batch_order q w.reports ≡ None)
-    → Waits w records settled → accept_at p records ≡ Some r → r.name ≡ n → list_any (continues_report r.name r.id) settled ≡ false → from ≤ p → ⊥
-none_waits w records settled n from p r none h e named free le =
-    let has = entry w records settled n p r h e named free in
-    let no_one = none (n, p) (place_le n from p le) in
-    let f = sym has ∙ no_one in
-    absurd cc
+  pub oldest : (g : G) (from : ℕ) (e : (G × ℕ) × List ℕ) → IsNext order w.reports g from e → order e.0.0 g ≡ Equal → Waits order of settled w records
+      → (from ≤ e.0.1) × IsSome (waits_at order of settled records (g, e.0.1)) × ((k : ℕ) → from ≤ k → IsSome (waits_at order of settled records (g, k)) → e.0.1 ≤ k)
+  oldest g from e said tie h = (
+    le_place total g e.0.0 from e.0.1 (tied_back total e.0.0 g tie) said.0,
+    subst (λ (o : Option (List ℕ)). IsSome o) (sym said.1 ∙ h e.0 ∙ alike g e.0.0 tie (settled e.0.1) (accept_at e.0.1 records)) refl,
+    λ k le has. le_place total e.0.0 g e.0.1 k tie (said.2 (g, k) (place_le total g from k le) (subst (λ (o : Option (List ℕ)). IsSome o) (sym (h (g, k))) has)),
+  )
 
-pub oldest : (w : Waiting) (records settled : List Record) (n : List ℕ) (from p : ℕ) (r : Told) (e : Batch × List ℕ) → IsNext w.reports n from e
-    → Waits w records settled → accept_at p records ≡ Some r → r.name ≡ n → list_any (continues_report r.name r.id) settled ≡ false → from ≤ p → (n ≡ e.0.0) × (e.0.1 ≤ p)
-oldest w records settled n from p r e said h is named free le =
-    let has = entry w records settled n p r h is named free in
-    let before = said.2 (n, p) (place_le n from p le) (subst (λ (o : Option (List ℕ)). IsSome o) (sym has) refl) in
-    let same = between n e.0.0 from e.0.1 p said.0 before in
-    (same, le_place n e.0.1 p (subst (λ (m : List ℕ). IsLeBy batch_order (m, e.0.1) (n, p)) (sym same) before))
+  pub none_of_group : (g : G) (from : ℕ) (e : (G × ℕ) × List ℕ) → IsNext order w.reports g from e → (order e.0.0 g ≡ Equal → ⊥) → Waits order of settled w records
+      → (k : ℕ) → from ≤ k → waits_at order of settled records (g, k) ≡ None
+  none_of_group g from e said differ h k le = by_entry (waits_at order of settled records (g, k)) refl
+    where
+      by_entry : (o : Option (List ℕ)) → waits_at order of settled records (g, k) ≡ o → waits_at order of settled records (g, k) ≡ None
+      by_entry None is = is
+      by_entry (Some id) is =
+          let behind = said.2 (g, k) (place_le total g from k le) (subst (λ (o : Option (List ℕ)). IsSome o) (sym (h (g, k) ∙ is)) refl) in
+          absurd (differ (between total g e.0.0 from e.0.1 k said.0 behind))
 
-pub told_next : (w : Waiting) (records settled : List Record) (n : List ℕ) (from : ℕ) (e : Batch × List ℕ) → IsNext w.reports n from e → bytes_eq e.0.0 n ≡ true → Waits w records settled
-    → (from ≤ e.0.1) × ((r : Told) × (accept_at e.0.1 records ≡ Some r) × (r.name ≡ n))
-told_next w records settled n from e said t h =
-    let same = (bytes_eq-Decides e.0.0 n).0 t in
-    let u = h.told e.0 e.1 said.1 in
-    (le_place n from e.0.1 (subst (λ (m : List ℕ). IsLeBy batch_order (n, from) (m, e.0.1)) same said.0), (u.0, u.1, u.2 ∙ same))
-
-pub other_name : (e n : List ℕ) → bytes_eq e n ≡ false → n ≡ e → ⊥
-other_name e n f same = let t = (bytes_eq-Decides e n).1 (sym same) in absurd (let c = sym f ∙ t in cc)
+  pub none_at_all : (g : G) (from : ℕ) → ((q : G × ℕ) → IsLeBy (place_order order) (g, from) q → at (place_order order) q w.reports ≡ None) → Waits order of settled w records
+      → (k : ℕ) → from ≤ k → waits_at order of settled records (g, k) ≡ None
+  none_at_all g from none h k le = sym (h (g, k)) ∙ none (g, k) (place_le total g from k le)

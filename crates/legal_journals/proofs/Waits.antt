@@ -1,21 +1,20 @@
--- Lemmas: the reports that wait, with one record more and without it.
-use Rattle.std.proofs.Common.{◌≡◌, ℕ, zero, suc, ◌≤◌, ◌<◌, ◌==◌, ◌⊎◌, Bool, true, false, cond, List, [], ◌∷◌, ◌++◌, length, Option, Some, None, bytes_eq, refl, sym, ap, subst, ◌∙◌, inl, inr, arith}
-use Rattle.std.proofs.lemmas.Bool.{and_parts, and_from, eqb-true, eq-eqb, false_from_ne_true}
-use Rattle.std.proofs.lemmas.Slice.Eq.{bytes_eq-Decides}
+-- Lemmas: the reports that wait, with one Accept more, without it, and with one place more that is settled.
+use Rattle.std.proofs.Common.{◌≡◌, ℕ, zero, suc, ◌≤◌, ◌<◌, ◌==◌, ◌⊎◌, Bool, true, false, not, ◌&&◌, ◌||◌, cond, List, [], ◌∷◌, ◌++◌, length, Option, Some, None, refl, sym, ap, subst, ◌∙◌, inl, inr, arith}
+use Rattle.std.proofs.lemmas.Bool.{cases_order, eq-eqb, eqb-true, false_from_ne_true}
 use Rattle.std.specs.Option.{option_or}
-use Rattle.std.specs.Ordering.{is_eq}
-use Rattle.std.specs.List.{list_any}
-use Rattle.dap_messages.specs.declared.report.Report.{Report as Told}
+use Rattle.std.specs.declared.cmp.Ordering.{Ordering}
+use Rattle.std.specs.declared.cmp.Ordering.TheVariants.{Less, Equal, Greater}
+use Rattle.std.specs.Ordering.{is_eq, nat_cmp}
+use Rattle.std.specs.Cmp.{IsTotalOrder, eq_by_cmp_equiv}
+use Rattle.dap_messages.specs.declared.report.Report.{Report}
 use Rattle.lane_records.specs.declared.record.Record.{Record}
 use Rattle.lane_records.specs.declared.record.Record.TheVariants.{Accept}
 use Rattle.lane_records.specs.Records.{accept_of}
-use Rattle.legal_journals.specs.LaneTests.{continues_report}
 use Rattle.legal_journals.specs.declared.waiting.Waiting.{Waiting}
 use Rattle.legal_journals.specs.Accepts.{accept_at}
-use Rattle.legal_journals.specs.Waiting.{Waits}
-use Rattle.legal_journals.specs.Reports.{Batch, batch_order}
+use Rattle.legal_journals.specs.Waiting.{place_order, settled_with, waits_at, waits_under, Waits}
 use Rattle.legal_journals.specs.Tables.{at, given, but}
-use Rattle.legal_journals.proofs.Keys.{batch-ties}
+use Rattle.legal_journals.proofs.Keys.{nat_cmp-eq, then-eq}
 
 at_old : (p : ℕ) (records : List Record) (x : Record) → p < length records → accept_at p (records ++ x ∷ []) ≡ accept_at p records
 at_old p [] x lt = absurd (omega arith)
@@ -31,131 +30,155 @@ at_past p [] le = refl
 at_past zero (y ∷ records) le = absurd (omega arith)
 at_past (suc p) (y ∷ records) le = at_past p records (omega arith)
 
--- where there is an Accept
-at_within : (p : ℕ) (records : List Record) (r : Told) → accept_at p records ≡ Some r → p < length records
-at_within p [] r e = absurd cc
-at_within zero (y ∷ records) r e = omega arith
-at_within (suc p) (y ∷ records) r e = let lt = at_within p records r e in omega arith
+at_behind : (p : ℕ) (records : List Record) (x : Record) → length records < p → accept_at p (records ++ x ∷ []) ≡ None
+at_behind zero [] x lt = absurd (omega arith)
+at_behind (suc p) [] x lt = refl
+at_behind zero (y ∷ records) x lt = absurd (omega arith)
+at_behind (suc p) (y ∷ records) x lt = at_behind p records x (omega arith)
 
--- an Accept of one record more stands before, or is the last record
-at_either : (p : ℕ) (records : List Record) (x : Record) (r : Told) → accept_at p (records ++ x ∷ []) ≡ Some r → (accept_at p records ≡ Some r) ⊎ ((p ≡ length records) × (accept_of x ≡ Some r))
-at_either p [] x r e = by_place p e where
-  by_place : (p : ℕ) → accept_at p (x ∷ []) ≡ Some r → (accept_at p [] ≡ Some r) ⊎ ((p ≡ 0) × (accept_of x ≡ Some r))
-  by_place zero e = inr (refl, e)
-  by_place (suc p) e = absurd cc
-at_either zero (y ∷ records) x r e = inl e
-at_either (suc p) (y ∷ records) x r e = elim (at_either p records x r e) as (λ _. (accept_at (suc p) (y ∷ records) ≡ Some r) ⊎ ((suc p ≡ suc (length records)) × (accept_of x ≡ Some r))) [
-  | inl before ↦ inl before
-  | inr (same, last) ↦ inr (ap suc same, last)
-]
+-- a record that is no Accept brings none
+at_other : (p : ℕ) (records : List Record) (x : Record) → accept_of x ≡ None → accept_at p (records ++ x ∷ []) ≡ accept_at p records
+at_other p records x none = by_place (cases_order p (length records)) where
+  by_place : (p ≡ length records) ⊎ ((p < length records) ⊎ (length records < p)) → accept_at p (records ++ x ∷ []) ≡ accept_at p records
+  by_place (inl same) = ap (λ n. accept_at n (records ++ x ∷ [])) same ∙ at_new records x ∙ none ∙ sym (at_past p records (omega arith))
+  by_place (inr (inl lt)) = at_old p records x lt
+  by_place (inr (inr gt)) = at_behind p records x gt ∙ sym (at_past p records (omega arith))
 
-ties : (a b : Batch) → is_eq (batch_order a b) ≡ true → (a.0 ≡ b.0) × (a.1 ≡ b.1)
-ties a b e = let parts = and_parts (bytes_eq a.0 b.0) (a.1 == b.1) (sym (batch-ties a b) ∙ e) in ((bytes_eq-Decides a.0 b.0).0 parts.0, eqb-true a.1 b.1 parts.1)
+and-false : (b : Bool) → (b && false) ≡ false
+and-false true = refl
+and-false false = refl
 
-tied : (n : List ℕ) (p : ℕ) → is_eq (batch_order (n, p) (n, p)) ≡ true
-tied n p = batch-ties (n, p) (n, p) ∙ and_from (bytes_eq n n) (p == p) ((bytes_eq-Decides n n).1 refl) (eq-eqb p p refl)
+or_nothing : {A : Type 0} (o : Option A) → option_or o None ≡ o
+or_nothing None = refl
+or_nothing (Some x) = refl
 
-pub other_more : (w : Waiting) (records settled : List Record) (x : Record) → accept_of x ≡ None → Waits w records settled → Waits w (records ++ x ∷ []) settled
-other_more w records settled x none h = record {
-  told = λ q id e. let t = h.told q id e in (t.0, at_old q.1 records x (at_within q.1 records t.0 t.1) ∙ t.1, t.2, t.3);
-  kept = λ p r e free. elim (at_either p records x r e) as (λ _. at batch_order (r.name, p) w.reports ≡ Some r.id) [
-    | inl before ↦ h.kept p r before free
-    | inr (same, last) ↦ let f = sym none ∙ last in absurd cc
-  ];
-}
+module _ {G : Type 0} {order : G → G → Ordering} (total : IsTotalOrder order) where
+  ties : (a b : G × ℕ) → is_eq (place_order order a b) ≡ (is_eq (order a.0 b.0) && a.1 == b.1)
+  ties a b = then-eq (order a.0 b.0) (nat_cmp a.1 b.1) ∙ ap (λ t. is_eq (order a.0 b.0) && t) (nat_cmp-eq a.1 b.1)
 
-pub accept_more : (w : Waiting) (new : List (Batch × List ℕ)) (records settled : List Record) (s : Told) → Waits w records settled
-    → ((q : Batch) → at batch_order q new ≡ option_or (at batch_order q w.reports) (given batch_order q (s.name, length records) s.id))
-    → Waits (record { reports = new }) (records ++ Accept s ∷ []) settled
-accept_more w new records settled s h enters = record {
-  told = λ q id e. by_old q id (at batch_order q w.reports) refl (is_eq (batch_order (s.name, length records) q)) refl (sym (enters q) ∙ e);
-  kept = λ p r e free. elim (at_either p records (Accept s) r e) as (λ _. at batch_order (r.name, p) new ≡ Some r.id) [
-    | inl before ↦ enters (r.name, p) ∙ ap (λ o. option_or o (given batch_order (r.name, p) (s.name, length records) s.id)) (h.kept p r before free)
-    | inr (same, last) ↦ by_last p r same (let f : s ≡ r = cc in f)
-  ];
-} where
-  by_old : (q : Batch) (id : List ℕ) (o : Option (List ℕ)) → at batch_order q w.reports ≡ o → (b : Bool) → is_eq (batch_order (s.name, length records) q) ≡ b → option_or o (cond b (Some s.id) None) ≡ Some id
-      → (r : Told) × (accept_at q.1 (records ++ Accept s ∷ []) ≡ Some r) × (r.name ≡ q.0) × (r.id ≡ id)
-  by_old q id (Some i) is b t e = let same : Some i ≡ Some id = e in let u = h.told q id (is ∙ same) in (u.0, at_old q.1 records (Accept s) (at_within q.1 records u.0 u.1) ∙ u.1, u.2, u.3)
-  by_old q id None is true t e =
-      let k = ties (s.name, length records) q t in
-      (s, subst (λ (p : ℕ). accept_at p (records ++ Accept s ∷ []) ≡ Some s) k.1 (at_new records (Accept s)), k.0, (let f : s.id ≡ id = cc in f))
-  by_old q id None is false t e = absurd cc
+  apart : (a b : G × ℕ) → (a.1 ≡ b.1 → ⊥) → is_eq (place_order order a b) ≡ false
+  apart a b differ =
+      ties a b ∙ ap (λ t. is_eq (order a.0 b.0) && t) (false_from_ne_true (a.1 == b.1) (λ t. differ (eqb-true a.1 b.1 t))) ∙ and-false (is_eq (order a.0 b.0))
 
-  none_old : (o : Option (List ℕ)) → at batch_order (s.name, length records) w.reports ≡ o → o ≡ None
-  none_old None is = refl
-  none_old (Some i) is = let u = h.told (s.name, length records) i is in let lt = at_within (length records) records u.0 u.1 in absurd (omega arith)
+  -- at one place the groups decide
+  by_group : (a b : G × ℕ) → a.1 ≡ b.1 → is_eq (place_order order a b) ≡ is_eq (order b.0 a.0)
+  by_group a b same =
+      ties a b ∙ ap (λ t. is_eq (order a.0 b.0) && t) (eq-eqb a.1 b.1 same) ∙ and_true (is_eq (order a.0 b.0)) ∙ (eq_by_cmp_equiv total).symm a.0 b.0
+    where
+      and_true : (b : Bool) → (b && true) ≡ b
+      and_true true = refl
+      and_true false = refl
 
-  at_last : at batch_order (s.name, length records) new ≡ Some s.id
-  at_last =
-      enters (s.name, length records) ∙ ap (λ b. option_or (at batch_order (s.name, length records) w.reports) (cond b (Some s.id) None)) (tied s.name (length records))
-      ∙ ap (λ o. option_or o (Some s.id)) (none_old (at batch_order (s.name, length records) w.reports) refl)
+  pub entered : (of : Report → G) (settled : ℕ → Bool) (old new : Waiting G) (records : List Record) (r : Report) (group : G) (place : ℕ) (id : List ℕ)
+      → Waits order of settled old records → of r ≡ group → r.id ≡ id → place ≡ length records → settled place ≡ false
+      → ((q : G × ℕ) → at (place_order order) q new.reports ≡ option_or (at (place_order order) q old.reports) (given (place_order order) q (group, place) id))
+      → Waits order of settled new (records ++ Accept r ∷ [])
+  entered of settled old new records r group place id h named same last free enters q = enters q ∙ by_place (cases_order q.1 (length records))
+    where
+      given_at : Bool → Option (List ℕ)
+      given_at b = option_or (at (place_order order) q old.reports) (cond b (Some id) None)
 
-  by_last : (p : ℕ) (r : Told) → p ≡ length records → s ≡ r → at batch_order (r.name, p) new ≡ Some r.id
-  by_last p r same e = subst (λ (z : Told). at batch_order (z.name, p) new ≡ Some z.id) e (subst (λ (n : ℕ). at batch_order (s.name, n) new ≡ Some s.id) (sym same) at_last)
+      elsewhere : (place ≡ q.1 → ⊥) → given_at (is_eq (place_order order (group, place) q)) ≡ waits_under order of q.0 (settled q.1) (accept_at q.1 records)
+      elsewhere differ = ap given_at (apart (group, place) q differ) ∙ or_nothing (at (place_order order) q old.reports) ∙ h q
 
-pub other_less : (w : Waiting) (records settled : List Record) (x : Record) → accept_of x ≡ None → Waits w (records ++ x ∷ []) settled → Waits w records settled
-other_less w records settled x none h = record {
-  told = λ q id e. let t = h.told q id e in elim (at_either q.1 records x t.0 t.1) as (λ _. (r : Told) × (accept_at q.1 records ≡ Some r) × (r.name ≡ q.0) × (r.id ≡ id)) [
-    | inl before ↦ (t.0, before, t.2, t.3)
-    | inr (same, last) ↦ let f = sym none ∙ last in absurd cc
-  ];
-  kept = λ p r e free. h.kept p r (at_old p records x (at_within p records r e) ∙ e) free;
-}
+      to : (o : Option Report) → accept_at q.1 (records ++ Accept r ∷ []) ≡ o
+          → waits_under order of q.0 (settled q.1) o ≡ waits_at order of settled (records ++ Accept r ∷ []) q
+      to o e = ap (waits_under order of q.0 (settled q.1)) (sym e)
 
-pub accept_less : (w : Waiting) (new : List (Batch × List ℕ)) (records settled : List Record) (s : Told) → Waits w (records ++ Accept s ∷ []) settled
-    → ((q : Batch) → at batch_order q new ≡ but batch_order q (s.name, length records) (at batch_order q w.reports)) → Waits (record { reports = new }) records settled
-accept_less w new records settled s h leaves = record {
-  told = λ q id e. by_tie q id (is_eq (batch_order (s.name, length records) q)) refl (sym (leaves q) ∙ e);
-  kept = λ p r e free.
-      let lt = at_within p records r e in
-      let apart : is_eq (batch_order (s.name, length records) (r.name, p)) ≡ false =
-      false_from_ne_true (is_eq (batch_order (s.name, length records) (r.name, p))) (λ t. let k = (ties (s.name, length records) (r.name, p) t).1 in absurd (omega arith)) in
-      leaves (r.name, p) ∙ ap (λ b. cond b None (at batch_order (r.name, p) w.reports)) apart ∙ h.kept p r (at_old p records (Accept s) lt ∙ e) free;
-} where
-  by_tie : (q : Batch) (id : List ℕ) (b : Bool) → is_eq (batch_order (s.name, length records) q) ≡ b → cond b None (at batch_order q w.reports) ≡ Some id
-      → (r : Told) × (accept_at q.1 records ≡ Some r) × (r.name ≡ q.0) × (r.id ≡ id)
-  by_tie q id true t e = absurd cc
-  by_tie q id false t e = let u = h.told q id e in elim (at_either q.1 records (Accept s) u.0 u.1) as (λ _. (r : Told) × (accept_at q.1 records ≡ Some r) × (r.name ≡ q.0) × (r.id ≡ id)) [
-    | inl before ↦ (u.0, before, u.2, u.3)
-    | inr (same, last) ↦
-        let one : s ≡ u.0 = (let l = last in cc) in
-        let names : bytes_eq s.name q.0 ≡ true = (bytes_eq-Decides s.name q.0).1 (ap (λ (z : Told). z.name) one ∙ u.2) in
-        let yes_tie = batch-ties (s.name, length records) q ∙ and_from (bytes_eq s.name q.0) (length records == q.1) names (eq-eqb (length records) q.1 (sym same)) in
-        absurd (let f = sym yes_tie ∙ t in cc)
-  ]
+      by_place : (q.1 ≡ length records) ⊎ ((q.1 < length records) ⊎ (length records < q.1))
+          → given_at (is_eq (place_order order (group, place) q)) ≡ waits_at order of settled (records ++ Accept r ∷ []) q
+      by_place (inl here) =
+          let none : at (place_order order) q old.reports ≡ None = h q ∙ ap (waits_under order of q.0 (settled q.1)) (at_past q.1 records (omega arith)) in
+          let tie : is_eq (place_order order (group, place) q) ≡ is_eq (order q.0 (of r)) = by_group (group, place) q (last ∙ sym here) ∙ ap (λ (g : G). is_eq (order q.0 g)) (sym named) in
+          let waits : not (settled q.1) ≡ true = ap (λ n. not (settled n)) (here ∙ sym last) ∙ ap not free in
+          ap (λ o. option_or o (cond (is_eq (place_order order (group, place) q)) (Some id) None)) none ∙ ap (λ b. cond b (Some id) None) tie
+          ∙ and_waits (is_eq (order q.0 (of r))) (not (settled q.1)) waits ∙ ap (λ i. cond (is_eq (order q.0 (of r)) && not (settled q.1)) (Some i) None) (sym same)
+          ∙ to (Some r) (ap (λ n. accept_at n (records ++ Accept r ∷ [])) here ∙ at_new records (Accept r))
+        where
+          and_waits : (b t : Bool) → t ≡ true → cond b (Some id) None ≡ cond (b && t) (Some id) None
+          and_waits true t e = ap (λ x. cond x (Some id) None) (sym e)
+          and_waits false t e = refl
+      by_place (inr (inl lt)) = elsewhere (λ e. absurd (omega arith)) ∙ to (accept_at q.1 records) (at_old q.1 records (Accept r) lt)
+      by_place (inr (inr gt)) =
+          elsewhere (λ e. absurd (omega arith)) ∙ ap (waits_under order of q.0 (settled q.1)) (at_past q.1 records (omega arith)) ∙ to None (at_behind q.1 records (Accept r) gt)
 
-pub not_accept : (x : Record) → ((r : Told) → x ≡ Accept r → ⊥) → accept_of x ≡ None
-not_accept (Accept r) f = absurd (f r refl)
-not_accept _ f = refl
+  -- what is left of a key where the groups decide
+  left_out : (of : Report → G) (group other : G) (settled : Bool) (o : Option Report) → ((r : Report) → o ≡ Some r → of r ≡ group)
+      → cond (is_eq (order other group)) None (waits_under order of other settled o) ≡ None
+  left_out of group other settled None all = nothing (is_eq (order other group))
+    where
+      nothing : (b : Bool) → ◌≡◌ {A = Option (List ℕ)} (cond b None None) None
+      nothing true = refl
+      nothing false = refl
+  left_out of group other settled (Some r) all =
+      ap (λ (g : G). cond (is_eq (order other g)) None (waits_under order of other settled (Some r))) (sym (all r refl)) ∙ by_tie (is_eq (order other (of r))) (not settled)
+    where
+      by_tie : (b t : Bool) → cond b None (cond (b && t) (Some r.id) None) ≡ None
+      by_tie true t = refl
+      by_tie false t = refl
 
--- the same at the place as it is named
-pub accept_more_at : (w : Waiting) (new : List (Batch × List ℕ)) (records settled : List Record) (x : Record) (s : Told) (place : ℕ) → x ≡ Accept s → place ≡ length records → Waits w records settled
-    → ((q : Batch) → at batch_order q new ≡ option_or (at batch_order q w.reports) (given batch_order q (s.name, place) s.id))
-    → Waits (record { reports = new }) (records ++ x ∷ []) settled
-accept_more_at w new records settled x s place is last h enters =
-    subst (λ (z : Record). Waits (record { reports = new }) (records ++ z ∷ []) settled) (sym is)
-    (accept_more w new records settled s h (λ q. enters q ∙ ap (λ n. option_or (at batch_order q w.reports) (given batch_order q (s.name, n) s.id)) last))
+  pub taken_back : (of : Report → G) (settled : ℕ → Bool) (old new : Waiting G) (records : List Record) (r : Report) (group : G) (place : ℕ)
+      → Waits order of settled old (records ++ Accept r ∷ []) → of r ≡ group → place ≡ length records
+      → ((q : G × ℕ) → at (place_order order) q new.reports ≡ but (place_order order) q (group, place) (at (place_order order) q old.reports))
+      → Waits order of settled new records
+  taken_back of settled old new records r group place h named last leaves q = leaves q ∙ by_place (cases_order q.1 (length records))
+    where
+      but_at : Bool → Option (List ℕ)
+      but_at b = cond b None (at (place_order order) q old.reports)
 
-pub accept_less_at : (w : Waiting) (new : List (Batch × List ℕ)) (records settled : List Record) (x : Record) (s : Told) (place : ℕ) → x ≡ Accept s → place ≡ length records → Waits w (records ++ x ∷ []) settled
-    → ((q : Batch) → at batch_order q new ≡ but batch_order q (s.name, place) (at batch_order q w.reports)) → Waits (record { reports = new }) records settled
-accept_less_at w new records settled x s place is last h leaves =
-    accept_less w new records settled s (subst (λ (z : Record). Waits w (records ++ z ∷ []) settled) is h)
-    (λ q. leaves q ∙ ap (λ n. but batch_order q (s.name, n) (at batch_order q w.reports)) last)
+      from_old : (o : Option Report) → accept_at q.1 (records ++ Accept r ∷ []) ≡ o → at (place_order order) q old.reports ≡ waits_under order of q.0 (settled q.1) o
+      from_old o e = h q ∙ ap (waits_under order of q.0 (settled q.1)) e
 
-pub settled_less : (w : Waiting) (new : List (Batch × List ℕ)) (records settled : List Record) (n : List ℕ) (place : ℕ) → Waits w records settled
-    → ((r : Told) → accept_at place records ≡ Some r → list_any (continues_report r.name r.id) settled ≡ true)
-    → ((q : Batch) → at batch_order q new ≡ but batch_order q (n, place) (at batch_order q w.reports)) → Waits (record { reports = new }) records settled
-settled_less w new records settled n place h taken leaves = record {
-  told = λ q id e. by_tie q id (is_eq (batch_order (n, place) q)) (sym (leaves q) ∙ e);
-  kept = λ p r e free.
-      let apart : is_eq (batch_order (n, place) (r.name, p)) ≡ false =
-      false_from_ne_true (is_eq (batch_order (n, place) (r.name, p))) (λ t.
-      let k = (ties (n, place) (r.name, p) t).1 in
-      let all = taken r (ap (λ (m : ℕ). accept_at m records) k ∙ e) in
-      absurd (let f = sym free ∙ all in cc)) in
-      leaves (r.name, p) ∙ ap (λ b. cond b None (at batch_order (r.name, p) w.reports)) apart ∙ h.kept p r e free;
-} where
-  by_tie : (q : Batch) (id : List ℕ) (b : Bool) → cond b None (at batch_order q w.reports) ≡ Some id → (r : Told) × (accept_at q.1 records ≡ Some r) × (r.name ≡ q.0) × (r.id ≡ id)
-  by_tie q id true e = absurd cc
-  by_tie q id false e = h.told q id e
+      elsewhere : (place ≡ q.1 → ⊥) → but_at (is_eq (place_order order (group, place) q)) ≡ at (place_order order) q old.reports
+      elsewhere differ = ap but_at (apart (group, place) q differ)
+
+      by_place : (q.1 ≡ length records) ⊎ ((q.1 < length records) ⊎ (length records < q.1))
+          → but_at (is_eq (place_order order (group, place) q)) ≡ waits_at order of settled records q
+      by_place (inl here) =
+          ap but_at (by_group (group, place) q (last ∙ sym here))
+          ∙ ap (cond (is_eq (order q.0 group)) None) (from_old (Some r) (ap (λ n. accept_at n (records ++ Accept r ∷ [])) here ∙ at_new records (Accept r)))
+          ∙ left_out of group q.0 (settled q.1) (Some r) (λ s e. let one : r ≡ s = (let k = e in cc) in ap of (sym one) ∙ named)
+          ∙ ap (waits_under order of q.0 (settled q.1)) (sym (at_past q.1 records (omega arith)))
+      by_place (inr (inl lt)) = elsewhere (λ e. absurd (omega arith)) ∙ from_old (accept_at q.1 records) (at_old q.1 records (Accept r) lt)
+      by_place (inr (inr gt)) =
+          elsewhere (λ e. absurd (omega arith)) ∙ from_old None (at_behind q.1 records (Accept r) gt) ∙ ap (waits_under order of q.0 (settled q.1)) (sym (at_past q.1 records (omega arith)))
+
+  pub settled_there : (of : Report → G) (settled : ℕ → Bool) (old new : Waiting G) (records : List Record) (group : G) (place : ℕ)
+      → Waits order of settled old records → ((r : Report) → accept_at place records ≡ Some r → of r ≡ group)
+      → ((q : G × ℕ) → at (place_order order) q new.reports ≡ but (place_order order) q (group, place) (at (place_order order) q old.reports))
+      → Waits order of (settled_with place settled) new records
+  settled_there of settled old new records group place h all leaves q = leaves q ∙ by_place (q.1 == place) refl
+    where
+      but_at : Bool → Option (List ℕ)
+      but_at b = cond b None (at (place_order order) q old.reports)
+
+      none_more : (o : Option Report) → None ≡ waits_under order of q.0 true o
+      none_more None = refl
+      none_more (Some r) = ap (λ b. cond b (Some r.id) None) (sym (and-false (is_eq (order q.0 (of r)))))
+
+      by_place : (b : Bool) → q.1 == place ≡ b
+          → but_at (is_eq (place_order order (group, place) q)) ≡ waits_under order of q.0 (settled_with place settled q.1) (accept_at q.1 records)
+      by_place true e =
+          let here : q.1 ≡ place = eqb-true q.1 place e in
+          ap but_at (by_group (group, place) q (sym here)) ∙ ap (cond (is_eq (order q.0 group)) None) (h q)
+          ∙ left_out of group q.0 (settled q.1) (accept_at q.1 records) (λ r at_it. all r (ap (λ n. accept_at n records) (sym here) ∙ at_it))
+          ∙ none_more (accept_at q.1 records) ∙ ap (λ b. waits_under order of q.0 (b || settled q.1) (accept_at q.1 records)) (sym e)
+      by_place false e =
+          ap but_at (apart (group, place) q (λ same. let yes_it = eq-eqb q.1 place (sym same) in let f = sym e ∙ yes_it in absurd cc)) ∙ h q
+          ∙ ap (λ b. waits_under order of q.0 (b || settled q.1) (accept_at q.1 records)) (sym e)
+
+pub other_more : {G : Type 0} (order : G → G → Ordering) (of : Report → G) (settled : ℕ → Bool) (w : Waiting G) (records : List Record) (x : Record) → accept_of x ≡ None
+    → Waits order of settled w records → Waits order of settled w (records ++ x ∷ [])
+other_more order of settled w records x none h q = h q ∙ ap (waits_under order of q.0 (settled q.1)) (sym (at_other q.1 records x none))
+
+pub other_less : {G : Type 0} (order : G → G → Ordering) (of : Report → G) (settled : ℕ → Bool) (w : Waiting G) (records : List Record) (x : Record) → accept_of x ≡ None
+    → Waits order of settled w (records ++ x ∷ []) → Waits order of settled w records
+other_less order of settled w records x none h q = h q ∙ ap (waits_under order of q.0 (settled q.1)) (at_other q.1 records x none)
+
+pub settled_alike : {G : Type 0} (order : G → G → Ordering) (of : Report → G) (settled so : ℕ → Bool) (w : Waiting G) (records : List Record)
+    → ((p : ℕ) (r : Report) → accept_at p records ≡ Some r → settled p ≡ so p) → Waits order of settled w records → Waits order of so w records
+settled_alike order of settled so w records alike h q = h q ∙ by_accept (accept_at q.1 records) refl
+  where
+    by_accept : (o : Option Report) → accept_at q.1 records ≡ o → waits_under order of q.0 (settled q.1) o ≡ waits_under order of q.0 (so q.1) o
+    by_accept None e = refl
+    by_accept (Some r) e = ap (λ b. cond (is_eq (order q.0 (of r)) && not b) (Some r.id) None) (alike q.1 r e)

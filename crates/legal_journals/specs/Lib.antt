@@ -4,6 +4,7 @@ pub mod FrontTests
 pub mod HelperIndexed
 pub mod History
 pub mod HistoryTests
+pub mod JobReports
 pub mod LaneTests
 pub mod LeaderIndexed
 pub mod Legal
@@ -13,5 +14,8 @@ pub mod LegalTests
 pub mod Places
 pub mod Ranges
 pub mod Reports
+pub mod Rests
+pub mod Sent
 pub mod Tables
+pub mod Told
 pub mod Waiting

@@ -2,8 +2,10 @@
 
 ghost use Rattle.std.specs.List.{count_by};
 ghost use Rattle.legal_journals.specs.HistoryTests.{is_open};
-ghost use Rattle.std.specs.Prelude.{◌≡◌, ◌++◌, ◌∷◌, [], List, OnErr, OnOk};
+ghost use Rattle.std.specs.Prelude.{◌≡◌, ◌++◌, ◌∷◌, [], List, length, OnErr, OnOk};
+ghost use Rattle.dap_messages.specs.declared.report.Report.{Report};
 ghost use Rattle.lane_records.specs.declared.record.Record.{Record};
+ghost use Rattle.lane_records.specs.declared.record.Record.TheVariants.{Accept};
 ghost use Rattle.legal_journals.specs.LaneTests.{accepts, continues_report, continues_job, finishes_job, leader_closes};
 ghost use Rattle.legal_journals.specs.LeaderIndexed.{LeaderIndexes};
 ghost use Rattle.legal_journals.specs.Places.{place_of};
@@ -89,6 +91,14 @@ impl LeaderIndex {
         }
     }
 
+    /// Without the newest record, which is the Accept of a report of this name and identifier. It takes no memory.
+    pub fn take_back_accept(&mut self, name: &Name, id: &Id)
+        ensures { (records : List Record) (r : Report) → r.name ≡ name.now → r.id ≡ id.now → LeaderIndexes self.old (records ++ Accept r ∷ []) → LeaderIndexes self.new records }
+    {
+        self.opens = self.opens.without_accept();
+        self.accepted.leave_at(&(*name, *id), self.opens.count);
+    }
+
     /// The place of the report's Accept. It takes no memory.
     pub fn accepted(&self, name: &Name, id: &Id) -> Option<usize>
         ensures { (records : List Record) → LeaderIndexes self.now records →
@@ -127,6 +137,13 @@ impl LeaderIndex {
             result ≡ place_of (leader_closes name.now start) records }
     {
         self.closed.get(&(*name, start))
+    }
+
+    /// How many records it has. It takes no memory.
+    pub fn len(&self) -> usize
+        ensures { (records : List Record) → LeaderIndexes self.now records → result ≡ length records }
+    {
+        self.opens.count
     }
 
     /// How many Opens there are, which is the number of the lane's incarnation. It takes no memory.

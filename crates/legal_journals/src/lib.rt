@@ -16,6 +16,7 @@ mod reports;
 mod table;
 mod waiting;
 mod walk;
+mod word_laws;
 
 pub use helper_index::HelperIndex;
 pub use laws::{
@@ -25,6 +26,9 @@ pub use laws::{
 pub use leader_index::LeaderIndex;
 pub use waiting::Waiting;
 pub use walk::legal;
+pub use word_laws::{
+    a_justified_message_stays_so, lists_of_a_job_have_its_identifiers, numbers_of_parts_add_up,
+};
 
 #[cfg(test)]
 mod tests;

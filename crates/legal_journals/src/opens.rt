@@ -2,7 +2,9 @@
 
 ghost use Rattle.std.specs.Prelude.{◌≡◌, ◌++◌, ◌∷◌, [], List, IfSome, OnOk, cond};
 ghost use Rattle.std.specs.List.{list_any};
+ghost use Rattle.dap_messages.specs.declared.report.Report.{Report};
 ghost use Rattle.lane_records.specs.declared.record.Record.{Record};
+ghost use Rattle.lane_records.specs.declared.record.Record.TheVariants.{Accept};
 ghost use Rattle.legal_journals.specs.History.{lanes_in, format_in};
 ghost use Rattle.legal_journals.specs.HistoryTests.{is_open, is_none_but, has_lanes, has_format, may_open, puts_into, is_of_lane};
 ghost use Rattle.legal_journals.specs.Places.{opens_two, AreOpens, HaveOneNumber};
@@ -123,6 +125,16 @@ impl Opens {
             opens,
             twos,
             lanes,
+        }
+    }
+
+    /// Those without the last record, which is an Accept.
+    pub(crate) fn without_accept(self) -> Opens
+        ensures { (records : List Record) (r : Report) → AreOpens self (records ++ Accept r ∷ []) → AreOpens result records }
+    {
+        Opens {
+            count: self.count.saturating_sub(1),
+            ..self
         }
     }
 

@@ -1,5 +1,5 @@
 -- The counts behind one call more.
-use Rattle.std.proofs.Common.{◌≡◌, ◌⊎◌, inr, ℕ, ◌<◌, ◌-◌, arith, sym, subst, max, ◌∙◌, ⊎_elim}
+use Rattle.std.proofs.Common.{◌≡◌, ◌⊎◌, ℕ, ◌<◌, ◌-◌, arith, sym, subst, max, ◌∙◌}
 use Rattle.dap_disk.specs.Disk.{CountsStop}
 use Rattle.part_journal.specs.Counts.{CountsStops}
 use Rattle.part_journal.specs.CountsLaws.{stops_calm, stops_once, stops_then}
@@ -23,12 +23,3 @@ module _ {D : Type 0} (downs deads : D → ℕ) where
   wake_behind stopped a b c x y z first call some =
       let same : max b 1 ≡ b = omega (arith, some) in
       stops_then downs deads ⊥ stopped a b c x y z (λ e. e) first (subst (λ (n : ℕ). CountsStops downs deads stopped n c y z) same call)
-
-  -- a call that isn't answered so
-  pub borne_all : (stopped : Type 0) (a b : ℕ) (x y : D) → (stopped → ⊥) → CountsStops downs deads stopped a b x y → CountsStops downs deads ⊥ a b x y
-  borne_all stopped a b x y runs c = record {
-    used = c.used;
-    stops = c.stops;
-    deaths = record { never_falls = c.deaths.never_falls; rises_by_one_at_most = c.deaths.rises_by_one_at_most; answered = λ s. absurd s.0; calm = ⊎_elim (λ s. absurd (runs s.0)) (λ e. inr e) c.deaths.calm };
-    borne = ⊎_elim (λ s. absurd (runs s)) (λ e. inr e) c.borne;
-  }

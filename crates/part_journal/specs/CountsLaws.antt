@@ -72,3 +72,26 @@ module _ {D : Type 0} (downs deads : D → ℕ) where
         };
         borne = next.borne;
       }
+
+  -- a call that isn't answered so
+  pub borne_all : (stopped : Type 0) (a b : ℕ) (x y : D) → (stopped → ⊥) → CountsStops downs deads stopped a b x y → CountsStops downs deads ⊥ a b x y
+  borne_all stopped a b x y runs c = record {
+    used = c.used;
+    stops = c.stops;
+    deaths = record { never_falls = c.deaths.never_falls; rises_by_one_at_most = c.deaths.rises_by_one_at_most; answered = λ s. absurd s.0; calm = ⊎_elim (λ s. absurd (runs s.0)) (λ e. inr e) c.deaths.calm };
+    borne = ⊎_elim (λ s. absurd (runs s)) (λ e. inr e) c.borne;
+  }
+
+  -- a call above that is answered so exactly where this one is
+  pub stops_as : (stopped other : Type 0) (a b : ℕ) (x y : D) → (stopped → other) → (other → stopped) → CountsStops downs deads stopped a b x y → CountsStops downs deads other a b x y
+  stops_as stopped other a b x y there back c = record {
+    used = c.used;
+    stops = c.stops;
+    deaths = record {
+      never_falls = c.deaths.never_falls;
+      rises_by_one_at_most = c.deaths.rises_by_one_at_most;
+      answered = λ s. c.deaths.answered (back s.0, s.1);
+      calm = ⊎_elim (λ s. inl (there s.0, s.1)) (λ e. inr e) c.deaths.calm;
+    };
+    borne = ⊎_elim (λ s. inl (there s)) (λ e. inr e) c.borne;
+  }

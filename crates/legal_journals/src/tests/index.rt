@@ -153,27 +153,43 @@ fn a_helpers_index_tells_the_places(rt: HostRuntime) -> Result<(), Fail> {
     Ok(())
 }
 
-/// The first two records from a place on, of those of a task that wait.
-fn waits(waiting: &Waiting, of: u8) -> Result<[usize; 2], Fail> {
-    let of = name(of)?;
-    let first = waiting.next(&of, 0).unwrap_or(NONE);
-    let second = waiting.next(&of, first.saturating_add(1)).unwrap_or(NONE);
-    Ok([first, second])
+/// The first two places at which reports wait in a group.
+fn waits<G: Ord + Copy + Drop>(waiting: &Waiting<G>, group: G) -> [usize; 2] {
+    let first = waiting.next(group, 0).unwrap_or(NONE);
+    let second = waiting.next(group, first.saturating_add(1)).unwrap_or(NONE);
+    [first, second]
 }
 
 #[test]
 fn reports_wait_in_the_order_of_their_accepts(rt: HostRuntime) -> Result<(), Fail> {
-    let alloc = rt.alloc();
-    let mut waiting = Waiting::new(alloc);
-    for (place, made) in LEADER[..4].iter().enumerate() {
-        waiting.push(&record(alloc, *made)?, place)?;
+    let (v, w) = (name(b'v')?, name(b'w')?);
+    let mut waiting = Waiting::new(rt.alloc());
+    waiting.enter(v, 1, &A)?;
+    waiting.enter(w, 2, &A)?;
+    waiting.enter(v, 3, &C)?;
+    assert_eq!(rt; waits(&waiting, v), [1, 3]);
+    assert_eq!(rt; waits(&waiting, w), [2, NONE]);
+    waiting.settle(v, 1);
+    waiting.settle(v, 2);
+    assert_eq!(rt; waits(&waiting, v), [3, NONE]);
+    waiting.take_back(v, 3);
+    assert_eq!(rt; waits(&waiting, v), [NONE, NONE]);
+    assert_eq!(rt; waits(&waiting, w), [2, NONE]);
+    Ok(())
+}
+
+#[test]
+fn reports_of_a_bucket_wait_apart_from_its_neighbours(rt: HostRuntime) -> Result<(), Fail> {
+    let (v, w) = (name(b'v')?, name(b'w')?);
+    let mut waiting = Waiting::new(rt.alloc());
+    for (place, group) in [(v, 60), (v, 0), (w, 60), (v, 60)].iter().enumerate() {
+        waiting.enter(*group, place, &A)?;
     }
-    assert_eq!(rt; waits(&waiting, b'v')?, [1, 3]);
-    assert_eq!(rt; waits(&waiting, b'w')?, [2, NONE]);
-    waiting.settle(&name(b'v')?, 1);
-    assert_eq!(rt; waits(&waiting, b'v')?, [3, NONE]);
-    waiting.take_back(&record(alloc, LEADER[3])?, 3);
-    assert_eq!(rt; waits(&waiting, b'v')?, [NONE, NONE]);
-    assert_eq!(rt; waits(&waiting, b'w')?, [2, NONE]);
+    assert_eq!(rt; waits(&waiting, (v, 60)), [0, 3]);
+    assert_eq!(rt; waits(&waiting, (v, 0)), [1, NONE]);
+    assert_eq!(rt; waits(&waiting, (v, 30)), [NONE, NONE]);
+    assert_eq!(rt; waits(&waiting, (w, 60)), [2, NONE]);
+    waiting.settle((v, 60), 0);
+    assert_eq!(rt; waits(&waiting, (v, 60)), [3, NONE]);
     Ok(())
 }

@@ -1,19 +1,25 @@
-use Rattle.std.proofs.Common.{refl, sym}
-use Rattle.legal_journals.proofs.Nexts.{none_waits, oldest, told_next, other_name}
+use Rattle.std.proofs.Common.{◌≡◌, ◌⊎◌, sym, ◌∙◌, inl, inr}
+use Rattle.std.specs.declared.cmp.Ordering.{Ordering}
+use Rattle.std.specs.declared.cmp.Ordering.TheVariants.{Less, Equal, Greater}
+use Rattle.legal_journals.proofs.Nexts.{none_at_all, none_of_group, oldest}
 use Rattle.legal_journals.proofs.waiting.Waiting.next.Goals as goal
 
-pub returns-in_default-clause-oldest : goal.returns-in_default-clause-oldest
-returns-in_default-clause-oldest c records settled h p r e named free le =
-    absurd (none_waits c.args.self.now records settled c.args.name.now c.args.from p r c.in_default.ensures.none h e named free le)
+not_equal : (answer order : Ordering) → answer ≡ order → (answer ≡ Less) ⊎ (answer ≡ Greater) → order ≡ Equal → ⊥
+not_equal answer order is (inl less) tie = let f = sym less ∙ is ∙ tie in absurd cc
+not_equal answer order is (inr greater) tie = let f = sym greater ∙ is ∙ tie in absurd cc
 
-pub returns-then-eq-clause-some : goal.returns-then-eq-clause-some
-returns-then-eq-clause-some c records settled h = told_next c.args.self.now records settled c.args.name.now c.args.from c.in-Some.entry c.in-Some.ensures.some (sym c.if-eq.ensures) h
+pub returns-in_default-clause-none : goal.returns-in_default-clause-none
+returns-in_default-clause-none g c of settled records h k le =
+    none_at_all g.met.G.Ord.total of settled c.args.self.now records c.args.group c.args.from c.in_default.ensures.none h k le
 
-pub returns-then-eq-clause-oldest : goal.returns-then-eq-clause-oldest
-returns-then-eq-clause-oldest c records settled h p r e named free le =
-    (c.in-Some.entry.0.1, refl, (oldest c.args.self.now records settled c.args.name.now c.args.from p r c.in-Some.entry c.in-Some.ensures.some h e named free le).1)
+pub returns-in-Equal-clause-oldest : goal.returns-in-Equal-clause-oldest
+returns-in-Equal-clause-oldest g c of settled records h =
+    oldest g.met.G.Ord.total of settled c.args.self.now records c.args.group c.args.from c.in-Some.entry c.in-Some.ensures.some (sym c.cmp.ensures ∙ c.in-Equal.is) h
 
-pub returns-else-eq-clause-oldest : goal.returns-else-eq-clause-oldest
-returns-else-eq-clause-oldest c records settled h p r e named free le =
-    absurd (other_name c.in-Some.entry.0.0 c.args.name.now (sym c.if-eq.ensures)
-    (oldest c.args.self.now records settled c.args.name.now c.args.from p r c.in-Some.entry c.in-Some.ensures.some h e named free le).0)
+pub returns-in-Less : goal.returns-in-Less
+returns-in-Less g c = record {
+  oldest = λ of settled records h. tt;
+  none = λ of settled records h k le.
+      none_of_group g.met.G.Ord.total of settled c.args.self.now records c.args.group c.args.from c.in-Some.entry c.in-Some.ensures.some
+      (not_equal c.cmp.result _ c.cmp.ensures c.in-Less.is) h k le;
+}

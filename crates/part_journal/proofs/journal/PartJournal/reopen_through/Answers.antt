@@ -2,7 +2,8 @@ use Rattle.std.proofs.Common.{◌≡◌, inl, inr, ⊎_elim, ◌<◌, Bool, Ok, 
 use Rattle.std.specs.Prelude.{IsTrue}
 use Rattle.part_journal.specs.Pages.{Pages, settled, reopening, reopened}
 use Rattle.part_journal.proofs.Again.{Tried, tried_back, tried_more, tried_stopped, settled_told, settled_empty}
-use Rattle.part_journal.proofs.Counted.{borne_all, stop_behind, wake_behind}
+use Rattle.part_journal.proofs.Counted.{stop_behind, wake_behind}
+use Rattle.part_journal.specs.CountsLaws.{borne_all}
 use Rattle.part_journal.proofs.journal.PartJournal.reopen_through.Goals as goal
 
 pub returns-in-Ok-Done-clause-ok : goal.returns-in-Ok-Done-clause-ok
