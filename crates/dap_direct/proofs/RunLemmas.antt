@@ -195,7 +195,7 @@ module _ (f : Kind → Functions) (limits : Limits) (tasks : List PlainTask) (sc
 
   -- the text of the segments before
   run_before : (given : List PlainTask) (text : List ℕ) → tasks ≡ given ++ tasks_of script → IsRun f limits tasks script done (l ∷ left) number old t
-      → text ≡ take t.whole t.text.items → text ≡ text_before f given script number
+      → text ≡ take t.whole t.text.items → text ≡ text_before f (opening given) script number
   run_before given text known run is =
       let place : number - 1 ≡ length done = omega (arith, run.next) in
       let front : take (number - 1) script ≡ done =
@@ -232,7 +232,7 @@ module _ (f : Kind → Functions) (limits : Limits) (tasks : List PlainTask) (sc
 
   -- a limit is passed, and the text of the segments before is answered
   pub stops : (given : List PlainTask) (text : List ℕ) (n : ℕ) → tasks ≡ given ++ tasks_of script → IsLine → limit ≡ Some n → text ≡ take t.whole t.text.items
-      → (passed_in f limits given script ≡ Some (record { line = number; limit = n })) × (text ≡ text_before f given script number)
+      → (passed_in f limits (opening given) script ≡ Some (record { line = number; limit = n })) × (text ≡ text_before f (opening given) script number)
   stops given text n known is some told = (
     sym (ap (λ (ts : List PlainTask). passed_after f limits ts [] script) known)
         ∙ run_passed f limits tasks script (take i script) (drop (i + 1) script) l number old new t printed n (left is) (passed_so is ∙ some),

@@ -7,6 +7,7 @@ ghost use Rattle.dap_tasks.specs.Task.{PlainTask};
 ghost use Rattle.dap_script.specs.Script.{task_names};
 ghost use Rattle.dap_script.specs.Spelling.{IsInRange, IsScript};
 ghost use Rattle.dap_model.specs.Run.{tasks_of};
+ghost use Rattle.dap_model.specs.State.{opening};
 ghost use Rattle.dap_direct.specs.Answered.{RunsTo};
 
 use crate::fault::RunFault;
@@ -29,7 +30,7 @@ fn run<V: ListVdaf>(
     requires few { length script.now < 2 ^ 31 }
     requires range { All IsInRange script.now }
     ensures { (given : List PlainTask) → tasks.now ≡ given ++ tasks_of script.now
-        → RunsTo V.of_kind limits.now given script.now result }
+        → RunsTo V.of_kind limits.now (opening given) script.now result }
 {
     let mut direct = Direct::new(alloc);
     let mut told = Told::new(alloc);
@@ -50,8 +51,9 @@ fn run<V: ListVdaf>(
     Ok(told.text)
 }
 
-/// What a script prints under these limits, where the given tasks are known beside its own. `Limit` exactly where a limit
-/// is passed, with the first line with which it is, and with the text of the segments before that line.
+/// What a script prints under these limits, where the given tasks are known before it and nothing else is. `Limit`
+/// exactly where a limit is passed, with the first line with which it is, and with the text of the segments before that
+/// line.
 pub fn printed_text<V: ListVdaf>(
     alloc: Global,
     limits: &Limits,
@@ -61,7 +63,7 @@ pub fn printed_text<V: ListVdaf>(
     requires few { length script.now < 2 ^ 31 }
     requires script { IsScript script.now }
     requires names { IsDistinct bytes_eq (map (λ task. task.name) given.items ++ task_names script.now) }
-    ensures { RunsTo V.of_kind limits.now given.items script.now result }
+    ensures { RunsTo V.of_kind limits.now (opening given.items) script.now result }
 {
     let tasks: Tasks<V> = known_tasks(alloc, given, script)?;
     run(alloc, limits, &tasks, script)

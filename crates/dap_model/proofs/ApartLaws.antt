@@ -22,7 +22,7 @@ use Rattle.dap_model.specs.Apart.{AreApart, HoldsCollected, IsApart, ShareNoBuck
 use Rattle.dap_model.specs.Changes.{ChangesNamed}
 use Rattle.dap_model.specs.Collections.{IsFirstOverlap, WasCollected}
 use Rattle.dap_model.specs.Run.{state_after}
-use Rattle.dap_model.specs.State.{Batch, State, earliest, is_collected, opening, sharing, task_named}
+use Rattle.dap_model.specs.State.{Batch, State, earliest, is_collected, sharing, task_named}
 use Rattle.dap_model.specs.Step.{collect_of, refused, reports_with_content, step}
 
 -- ---- batches that share no bucket
@@ -120,13 +120,10 @@ apart-kept f s k (line.Upload bytes) range h = go (changes_named f s k (line.Upl
 apart-kept f s k (line.Collect name span) range h = collect-kept f s k span range.2.0 h name
 apart-kept f s k (line.Restart node) range h = h
 
-run-apart : (f : Kind → Functions) (s : State) (k : ℕ) (lines : List Line) → All IsInRange lines → IsApart s → IsApart (state_after f s k lines)
+pub run-apart : (f : Kind → Functions) (s : State) (k : ℕ) (lines : List Line) → All IsInRange lines → IsApart s → IsApart (state_after f s k lines)
 run-apart f s k [] range h = h
 run-apart f s k (l ∷ more) range h =
     run-apart f (step f s k l).0 (k + 1) more (All-tail IsInRange l more range) (apart-kept f s k l (All-head IsInRange l more range) h)
-
-pub apart-after_lines : (f : Kind → Functions) (tasks : List PlainTask) (lines : List Line) → All IsInRange lines → IsApart (state_after f (opening tasks) 1 lines)
-apart-after_lines f tasks lines range = run-apart f (opening tasks) 1 lines range tt
 
 -- ---- what follows
 

@@ -154,6 +154,25 @@ module _ (s : State) (t : PlainTask) (span : Span) where
             refl,
           )
 
+  -- the one that is earliest is the first that overlaps
+  pub earliest-is : (o : Span) → earliest (sharing t span s.collected) ≡ Some o → IsFirstOverlap s t.name t.precision span o
+  earliest-is o e = go (sharing t span s.collected) refl e
+    where
+      go : (spans : List Span) → sharing t span s.collected ≡ spans → earliest spans ≡ Some o → IsFirstOverlap s t.name t.precision span o
+      go [] is h = absurd cc
+      go (a ∷ more) is h =
+          let first : Span = option_map_or (earlier a) (earliest more) a in
+          let some : Earliest (a ∷ more) first = earliest-some a more in
+          let same : first ≡ o = cc in
+          let in_them = sharing-in t span s.collected first (subst (λ l. Contains l first) (sym is) some.among) in
+          subst (IsFirstOverlap s t.name t.precision span) same
+          (record {
+            overlaps = record { collected = in_them.0; shared = in_them.1 };
+            first = λ another also.
+                All-contains (λ x. first.start ≤ x.start) (a ∷ more) another some.first
+                (subst (λ l. Contains l another) is (sharing-from t span s.collected another also.collected also.shared));
+          })
+
 -- ---- the law
 
 module _ (f : Kind → Functions) (s : State) (k : ℕ) (span : Span) where

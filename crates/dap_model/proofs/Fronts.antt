@@ -9,17 +9,16 @@ use Rattle.std.specs.List.{list_any}
 use Rattle.dap_model.specs.Segments.{AreWholeSegments, EndsSegment, TellsWholeSegments}
 use Rattle.vdaf_api.specs.Functions.{Functions}
 use Rattle.vdaf_api.specs.declared.kind.Kind.{Kind}
-use Rattle.dap_tasks.specs.Task.{PlainTask}
 use Rattle.dap_script.specs.declared.line.Line.{Line}
 use Rattle.dap_model.specs.Limits.{ends_segment, text_before, whole_segments}
 use Rattle.dap_model.specs.Printed.{spelling, text_of}
-use Rattle.dap_model.specs.Run.{model_text, printed_from, state_after, tasks_of}
-use Rattle.dap_model.specs.State.{State, opening}
+use Rattle.dap_model.specs.Run.{model_text, opening_of, printed_from, state_after}
+use Rattle.dap_model.specs.State.{State}
 use Rattle.dap_model.specs.Step.{step}
 use Rattle.dap_model.specs.declared.printed.Printed.{Printed}
 
 -- the whole is the part, and then the rest
-abbrev Begins : {A : Type 0} → List A → List A → Type 0
+abbrev pub Begins : {A : Type 0} → List A → List A → Type 0
 Begins {A} part whole = (rest : List A) × (whole ≡ part ++ rest)
 
 begins_again : {A : Type 0} (a b c : List A) → Begins a b → Begins b c → Begins a c
@@ -45,7 +44,7 @@ text_begins : (part whole : List Printed) → Begins part whole → Begins (text
 text_begins part whole p = (text_of p.0, ap text_of p.1 ∙ flat_map-append spelling part p.0)
 
 -- what the rest prints follows on what the first lines print
-printed_then : (f : Kind → Functions) (s : State) (k n : ℕ) (first rest : List Line) → k + length first ≡ n
+pub printed_then : (f : Kind → Functions) (s : State) (k n : ℕ) (first rest : List Line) → k + length first ≡ n
     → printed_from f s k (first ++ rest) ≡ printed_from f s k first ++ printed_from f (state_after f s k first) n rest
 printed_then f s k n [] rest e = let here : k ≡ n = omega (arith, e) in ap (λ (m : ℕ). printed_from f s m rest) here
 printed_then f s k n (l ∷ more) rest e =
@@ -53,18 +52,29 @@ printed_then f s k n (l ∷ more) rest e =
     ap (λ p. (step f s k l).1 ++ p) (printed_then f after (k + 1) n more rest (omega (arith, e)))
     ∙ sym (append_assoc (step f s k l).1 (printed_from f after (k + 1) more) (printed_from f (state_after f after (k + 1) more) n rest))
 
-pub text_before-front : (f : Kind → Functions) (given : List PlainTask) (lines : List Line) (number : ℕ)
-    → (n : ℕ) × (text_before f given lines number ≡ take n (model_text f given lines))
-text_before-front f given lines number =
-    let s : State = opening (given ++ tasks_of lines) in
+-- and so does the state
+pub state_then : (f : Kind → Functions) (s : State) (k n : ℕ) (first rest : List Line) → k + length first ≡ n
+    → state_after f s k (first ++ rest) ≡ state_after f (state_after f s k first) n rest
+state_then f s k n [] rest e = let here : k ≡ n = omega (arith, e) in ap (λ (m : ℕ). state_after f s m rest) here
+state_then f s k n (l ∷ more) rest e = state_then f (step f s k l).0 (k + 1) n more rest (omega (arith, e))
+
+-- the whole segments before a line are the first lines
+pub told-lines : (lines : List Line) (number : ℕ) → Begins (whole_segments (take (number - 1) lines)) lines
+told-lines lines number =
     let upto : List Line = take (number - 1) lines in
-    let first : List Line = whole_segments upto in
-    let cut : Begins first lines = begins_again first upto lines (segments_begin upto) (drop (number - 1) lines, sym (take-append-drop (number - 1) lines)) in
+    begins_again (whole_segments upto) upto lines (segments_begin upto) (drop (number - 1) lines, sym (take-append-drop (number - 1) lines))
+
+pub text_before-front : (f : Kind → Functions) (opened : State) (lines : List Line) (number : ℕ)
+    → (n : ℕ) × (text_before f opened lines number ≡ take n (model_text f opened lines))
+text_before-front f opened lines number =
+    let s : State = opening_of opened lines in
+    let first : List Line = whole_segments (take (number - 1) lines) in
+    let cut : Begins first lines = told-lines lines number in
     let printed : Begins (printed_from f s 1 first) (printed_from f s 1 (first ++ cut.0)) = printed_begin f s 1 first cut.0 in
     let text = text_begins (printed_from f s 1 first) (printed_from f s 1 (first ++ cut.0)) printed in (
-      length (text_before f given lines number),
-      sym (ap (λ (l : List Line). take (length (text_before f given lines number)) (text_of (printed_from f s 1 l))) cut.1
-          ∙ ap (take (length (text_before f given lines number))) text.1 ∙ take-append_seam (text_before f given lines number) text.0),
+      length (text_before f opened lines number),
+      sym (ap (λ (l : List Line). take (length (text_before f opened lines number)) (text_of (printed_from f s 1 l))) cut.1
+          ∙ ap (take (length (text_before f opened lines number))) text.1 ∙ take-append_seam (text_before f opened lines number) text.0),
     )
 
 -- ---- what whole segments are
@@ -113,12 +123,12 @@ segments-whole (l ∷ more) = segments_with l more (segments-whole more) (ends_s
 
 -- ---- what is told before a line
 
-pub tells-segments : (f : Kind → Functions) (given : List PlainTask) (lines : List Line) (number : ℕ) → TellsWholeSegments f given lines number (text_before f given lines number)
-tells-segments f given lines number =
-    let s : State = opening (given ++ tasks_of lines) in
+pub tells-segments : (f : Kind → Functions) (opened : State) (lines : List Line) (number : ℕ) → TellsWholeSegments f opened lines number (text_before f opened lines number)
+tells-segments f opened lines number =
+    let s : State = opening_of opened lines in
     let upto : List Line = take (number - 1) lines in
     let first : List Line = whole_segments upto in
-    let cut : Begins first lines = begins_again first upto lines (segments_begin upto) (drop (number - 1) lines, sym (take-append-drop (number - 1) lines)) in
+    let cut : Begins first lines = told-lines lines number in
     record {
       first = first;
       rest = cut.0;

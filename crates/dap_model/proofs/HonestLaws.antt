@@ -1,6 +1,7 @@
 -- A batch of honest fair reports is counted by its measurements.
 use Rattle.std.proofs.Common.{◌≡◌, ◌⊎◌, ℕ, ◌≤◌, List, [], ◌∷◌, length, suc, filter_map, Some, refl, ap, ◌∙◌, inl, inr, arith, true}
-use Rattle.std.specs.List.{cons_option}
+use Rattle.std.specs.List.{All, cons_option}
+use Rattle.std.proofs.lemmas.List.Elements.{All-cons, All-nil}
 use Rattle.vdaf_api.specs.Functions.{Functions}
 use Rattle.vdaf_api.specs.Promises.{FunctionLaws}
 use Rattle.vdaf_api.specs.Totals.{total_numbers}
@@ -34,7 +35,7 @@ module _ (f : Kind → Functions) (t : PlainTask) (laws : FunctionLaws (f t.kind
       honest-counted laws t r.id r.time m one.seed r key one.id_bytes one.seed_bytes one.made one.fair in
       ap (λ o. cons_option o (vectors_of f t rs)) content ∙ ap (cons_option ((f t.kind).encoding m)) (vectors-carried ms rs h.1)
 
-  length-carried : (ms : List (List ℕ)) (rs : List Report) → CarryEach f t ms rs → length rs ≡ length ms
+  pub length-carried : (ms : List (List ℕ)) (rs : List Report) → CarryEach f t ms rs → length rs ≡ length ms
   length-carried [] [] h = refl
   length-carried [] (r ∷ rs) h = absurd h
   length-carried (m ∷ ms) [] h = absurd h
@@ -50,6 +51,17 @@ module _ (f : Kind → Functions) (t : PlainTask) (laws : FunctionLaws (f t.kind
       let made = honest-is (f t.kind) t r.id r.time m one.seed r one.made in
       let vector = laws.measured r.id m one.seed made.parts one.id_bytes one.seed_bytes made.sharded in
       ap (λ o. length (cons_option o (vectors ms))) vector.1 ∙ ap suc (length-vectors ms rs h.1)
+
+  -- each is one of the kind
+  pub measured-carried : (ms : List (List ℕ)) (rs : List Report) → CarryEach f t ms rs → All (λ m. (v : List ℕ) × ((f t.kind).encoding m ≡ Some v)) ms
+  measured-carried [] [] h = All-nil (λ m. (v : List ℕ) × ((f t.kind).encoding m ≡ Some v))
+  measured-carried [] (r ∷ rs) h = absurd h
+  measured-carried (m ∷ ms) [] h = absurd h
+  measured-carried (m ∷ ms) (r ∷ rs) h =
+      let one : Carries f t m r = h.0 in
+      let made = honest-is (f t.kind) t r.id r.time m one.seed r one.made in
+      All-cons (λ m. (v : List ℕ) × ((f t.kind).encoding m ≡ Some v)) m ms
+      (laws.measured r.id m one.seed made.parts one.id_bytes one.seed_bytes made.sharded) (measured-carried ms rs h.1)
 
   module _ (s : State) (k : ℕ) (name : List ℕ) (span : Span) (ms : List (List ℕ)) (h : CarryEach f t ms (batch_reports s t span)) where
     abbrev reports : List Report

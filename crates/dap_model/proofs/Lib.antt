@@ -7,6 +7,7 @@ pub mod GrowthLaws
 pub mod HonestLaws
 pub mod ListLemmas
 pub mod MomentLaws
+pub mod NameCountLaws
 pub mod NameLemmas
 pub mod NumberLaws
 pub mod OfferLaws
@@ -14,7 +15,10 @@ pub mod OfferingLaws
 pub mod OnceLaws
 pub mod PassLaws
 pub mod RepeatLaws
+pub mod SameLaws
+pub mod SameLists
 pub mod TakenLaws
 pub mod TestLemmas
 pub mod UploadLaws
 pub mod UploadedLaws
+pub mod WholeLaws

@@ -3,16 +3,16 @@ use Rattle.std.proofs.Common.{◌≡◌, ◌⊎◌, ℕ, ◌+◌, ◌<◌, ◌�
 use Rattle.std.proofs.lemmas.Bool.{cases_lt}
 use Rattle.std.proofs.lemmas.List.Elements.{All-append, All-cons, All-nil, All-weaker, Contains-append_left, Contains-push}
 use Rattle.std.specs.List.{All}
+use Rattle.std.specs.Option.{option_to_list}
 use Rattle.vdaf_api.specs.Functions.{Functions}
 use Rattle.vdaf_api.specs.declared.kind.Kind.{Kind}
-use Rattle.dap_tasks.specs.Task.{PlainTask}
 use Rattle.dap_script.specs.declared.line.Line.{Line}
 use Rattle.dap_script.specs.declared.line.Line.TheVariants as line
 use Rattle.dap_model.proofs.ChangeLaws.{changes_named}
 use Rattle.dap_model.specs.Changes.{ChangesNamed}
-use Rattle.dap_model.specs.Moments.{IsGreatest, time_in, times_of}
+use Rattle.dap_model.specs.Moments.{IsGreatest, time_in, times_of, times_since}
 use Rattle.dap_model.specs.Run.{state_after}
-use Rattle.dap_model.specs.State.{State, opening}
+use Rattle.dap_model.specs.State.{State}
 use Rattle.dap_model.specs.Step.{raised, step}
 
 pub greatest-push : (times : List ℕ) (moment : Option ℕ) (t : ℕ) → IsGreatest times moment → IsGreatest (times ++ t ∷ []) (raised moment t)
@@ -55,5 +55,10 @@ run_keeps f done s k (l ∷ more) h =
     subst (λ (times : List ℕ). IsGreatest times (state_after f after (k + 1) more).moment) (append_assoc done (time_in l) (times_of more))
     (run_keeps f (done ++ time_in l) after (k + 1) more (moment_by done s after l (changes_named f s k l) h))
 
-pub moment-greatest : (f : Kind → Functions) (tasks : List PlainTask) (lines : List Line) → IsGreatest (times_of lines) (state_after f (opening tasks) 1 lines).moment
-moment-greatest f tasks lines = run_keeps f [] (opening tasks) 1 lines refl
+-- before any line the moment is the greatest of itself
+pub greatest-first : (moment : Option ℕ) → IsGreatest (option_to_list moment) moment
+greatest-first None = refl
+greatest-first (Some m) = (Contains-push [] m, All-cons (λ x. x ≤ m) m [] (omega arith) (All-nil (λ x. x ≤ m)))
+
+pub moment-greatest : (f : Kind → Functions) (s : State) (k : ℕ) (lines : List Line) → IsGreatest (times_since s.moment lines) (state_after f s k lines).moment
+moment-greatest f s k lines = run_keeps f (option_to_list s.moment) s k lines (greatest-first s.moment)

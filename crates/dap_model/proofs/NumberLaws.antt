@@ -15,8 +15,8 @@ use Rattle.dap_script.specs.declared.line.Line.{Line}
 use Rattle.dap_script.specs.declared.line.Line.TheVariants as line
 use Rattle.dap_model.specs.Numbers.{AreOfLine, PrintsByItsNumber, in_its_place}
 use Rattle.dap_model.specs.Printed.{text_of}
-use Rattle.dap_model.specs.Run.{printed_from, state_after, tasks_of}
-use Rattle.dap_model.specs.State.{State, opening, earliest, is_collected, sharing, with_collected}
+use Rattle.dap_model.specs.Run.{opening_of, printed_from, state_after}
+use Rattle.dap_model.specs.State.{State, earliest, is_collected, sharing, with_collected}
 use Rattle.dap_model.specs.Step.{Outcome, after_judgement, collect_of, collection_of, measure_of, name_in, offered, refused, report_in, step, upload_named, upload_to, judgement, reports_with_content}
 use Rattle.dap_model.specs.declared.printed.Printed.{Printed}
 use Rattle.dap_model.specs.declared.printed.Printed.TheVariants.{Refused, Small, Overlap}
@@ -113,9 +113,9 @@ printed-around f s k n (x ∷ before) l behind e =
     ∙ sym (append_assoc (step f s k x).1 (front ++ own.1) last)
     ∙ ap (λ p. p ++ last) (sym (append_assoc (step f s k x).1 front own.1))
 
-pub prints-by_number : (f : Kind → Functions) (given : List PlainTask) (before : List Line) (l : Line) (behind : List Line) → PrintsByItsNumber f given before l behind
-prints-by_number f given before l behind =
-    let first : State = opening (given ++ tasks_of (before ++ l ∷ behind)) in
+pub prints-by_number : (f : Kind → Functions) (opened : State) (before : List Line) (l : Line) (behind : List Line) → PrintsByItsNumber f opened before l behind
+prints-by_number f opened before l behind =
+    let first : State = opening_of opened (before ++ l ∷ behind) in
     let own : Outcome = in_its_place f first before l in
     let next : length before + 1 + 1 ≡ length before + 2 = omega arith in
     record {

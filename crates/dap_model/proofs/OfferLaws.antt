@@ -48,11 +48,11 @@ find_only (b ∷ more) name id a d c h = go (λ in_more. find_only more name id 
     go later false is (inr in_more) = later in_more
 
 module _ (s : State) (distinct : AreDistinct s.accepted) (name id : List ℕ) where
-  known_bytes : (bytes : List ℕ) → IsKnown s name id bytes → known_in s.accepted name id ≡ Some bytes
+  pub known_bytes : (bytes : List ℕ) → IsKnown s name id bytes → known_in s.accepted name id ≡ Some bytes
   known_bytes bytes h =
       ap (option_map report.spell) (find_only s.accepted name id h.known distinct h.accepted (record { of_task = h.of_task; of_id = h.of_id })) ∙ ap Some h.spelled
 
-  bytes_known : (bytes : List ℕ) → known_in s.accepted name id ≡ Some bytes → IsKnown s name id bytes
+  pub bytes_known : (bytes : List ℕ) → known_in s.accepted name id ≡ Some bytes → IsKnown s name id bytes
   bytes_known bytes e = go (find (has_key name id) s.accepted) refl e
     where
       go : (o : Option Report) → find (has_key name id) s.accepted ≡ o → option_map report.spell o ≡ Some bytes → IsKnown s name id bytes
@@ -62,7 +62,7 @@ module _ (s : State) (distinct : AreDistinct s.accepted) (name id : List ℕ) wh
           let key : HasKey name id a = key_is name id a there.passes in
           record { known = a; accepted = there.contained; of_task = key.of_task; of_id = key.of_id; spelled = cc }
 
-  unknown_bytes : ((bytes : List ℕ) → IsKnown s name id bytes → ⊥) → known_in s.accepted name id ≡ None
+  pub unknown_bytes : ((bytes : List ℕ) → IsKnown s name id bytes → ⊥) → known_in s.accepted name id ≡ None
   unknown_bytes none = go (known_in s.accepted name id) refl
     where
       go : (o : Option (List ℕ)) → known_in s.accepted name id ≡ o → o ≡ None

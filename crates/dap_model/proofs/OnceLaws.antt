@@ -22,11 +22,11 @@ use Rattle.dap_script.specs.declared.line.Line.TheVariants as line
 use Rattle.dap_model.proofs.ChangeLaws.{by_task, collect_accepts}
 use Rattle.dap_model.specs.Changes.{AreDistinct}
 use Rattle.dap_model.specs.Run.{state_after}
-use Rattle.dap_model.specs.State.{State, opening, has_key, known_in, is_closed}
+use Rattle.dap_model.specs.State.{State, has_key, known_in, is_closed}
 use Rattle.dap_model.specs.Step.{Outcome, after_judgement, measure_of, name_in, offered, refused, report_in, step, upload_named, upload_to, judgement}
 use Rattle.dap_model.proofs.TestLemmas.{added_by_tests}
 
-has_key-turned : (a b : Report) → has_key a.name a.id b ≡ has_key b.name b.id a
+pub has_key-turned : (a b : Report) → has_key a.name a.id b ≡ has_key b.name b.id a
 has_key-turned a b = rw (bytes_eq-turned b.name a.name, bytes_eq-turned b.id a.id) refl
 
 pub distinct_after : (reports : List Report) (new : Report) → AreDistinct reports → list_any (has_key new.name new.id) reports ≡ false → AreDistinct (reports ++ new ∷ [])
@@ -79,9 +79,6 @@ distinct_kept f s k (line.Upload bytes) d = upload_keeps s k bytes (name_in byte
 distinct_kept f s k (line.Collect name span) d = subst AreDistinct (sym (collect_accepts f s k name span)) d
 distinct_kept f s k (line.Restart node) d = d
 
-run_distinct : (f : Kind → Functions) (s : State) (k : ℕ) (lines : List Line) → AreDistinct s.accepted → AreDistinct (state_after f s k lines).accepted
+pub run_distinct : (f : Kind → Functions) (s : State) (k : ℕ) (lines : List Line) → AreDistinct s.accepted → AreDistinct (state_after f s k lines).accepted
 run_distinct f s k [] d = d
 run_distinct f s k (l ∷ more) d = run_distinct f (step f s k l).0 (k + 1) more (distinct_kept f s k l d)
-
-pub distinct_after_lines : (f : Kind → Functions) (tasks : List PlainTask) (lines : List Line) → AreDistinct (state_after f (opening tasks) 1 lines).accepted
-distinct_after_lines f tasks lines = run_distinct f (opening tasks) 1 lines tt

@@ -14,7 +14,8 @@ use Rattle.dap_tasks.specs.Task.{PlainTask}
 use Rattle.dap_script.specs.declared.line.Line.{Line}
 use Rattle.dap_model.specs.Limits.{Passed, bytes_in, limit_passed, passed_after, report_offered, reports_offered}
 use Rattle.dap_model.specs.Passes.{AreWithin, IsExact, Pass}
-use Rattle.dap_model.specs.Run.{tasks_of}
+use Rattle.dap_model.specs.Run.{opening_of}
+use Rattle.dap_model.specs.State.{State}
 use Rattle.dap_model.specs.declared.limits.Limits.{Limits}
 
 -- ---- one list of reports
@@ -55,7 +56,7 @@ module _ (f : Kind → Functions) (limits : Limits) (tasks : List PlainTask) whe
   abbrev offers : List Line → List Report
   offers lines = reports_offered f tasks lines
 
-  offers-append : (a b : List Line) → offers (a ++ b) ≡ offers a ++ offers b
+  pub offers-append : (a b : List Line) → offers (a ++ b) ≡ offers a ++ offers b
   offers-append [] b = refl
   offers-append (l ∷ more) b =
       ap (λ r. option_to_list (report_offered f tasks l) ++ r) (offers-append more b)
@@ -134,9 +135,9 @@ module _ (f : Kind → Functions) (limits : Limits) (tasks : List PlainTask) whe
 nothing_offered : (limits : Limits) → AreWithin limits []
 nothing_offered limits = record { few = omega arith; small = omega arith }
 
-pub passed-exact : (f : Kind → Functions) (limits : Limits) (given : List PlainTask) (lines : List Line) → IsExact f limits given lines
-passed-exact f limits given lines =
-    let tasks : List PlainTask = given ++ tasks_of lines in
+pub passed-exact : (f : Kind → Functions) (limits : Limits) (opened : State) (lines : List Line) → IsExact f limits opened lines
+passed-exact f limits opened lines =
+    let tasks : List PlainTask = (opening_of opened lines).tasks in
     let whole : reports_offered f tasks (take (length lines) lines) ≡ reports_offered f tasks lines = ap (reports_offered f tasks) (take-length lines) in
     record {
       none = λ e. subst (AreWithin limits) (sym whole) (all_within f limits tasks [] lines (nothing_offered limits) e);

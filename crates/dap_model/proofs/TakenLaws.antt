@@ -4,7 +4,7 @@ use Rattle.std.proofs.lemmas.Bool.{or_from, or_parts, le-ltb, ltb-false, lt-leb}
 use Rattle.std.proofs.lemmas.List.Elements.{All-contains}
 use Rattle.std.proofs.lemmas.List.Folds.{list_any-append}
 use Rattle.std.specs.List.{find, list_any, Contains}
-use Rattle.std.specs.Option.{option_map, option_map_or}
+use Rattle.std.specs.Option.{option_map, option_map_or, option_to_list}
 use Rattle.std.specs.Str.{bytes_eq}
 use Rattle.vdaf_api.specs.Functions.{Functions, Parts}
 use Rattle.vdaf_api.specs.declared.kind.Kind.{Kind}
@@ -19,13 +19,13 @@ use Rattle.dap_tasks.specs.declared.cause.Judged.TheVariants.{Added}
 use Rattle.dap_script.specs.declared.line.Line.{Line}
 use Rattle.dap_script.specs.declared.line.Line.TheVariants as line
 use Rattle.dap_model.proofs.ChangeLaws.{changes_named, found_name}
-use Rattle.dap_model.proofs.MomentLaws.{greatest-push}
+use Rattle.dap_model.proofs.MomentLaws.{greatest-first, greatest-push}
 use Rattle.dap_model.proofs.OnceLaws.{is_some-known_in}
 use Rattle.dap_model.specs.Changes.{AddsBatch}
 use Rattle.dap_model.specs.Counts.{AreTaken, IsTaken, IsTakenLine, collects, is_collection, measures}
-use Rattle.dap_model.specs.Moments.{IsGreatest, IsTimely, time_in, times_of, IsUnexpired}
+use Rattle.dap_model.specs.Moments.{IsGreatest, IsTimely, time_in, times_of, times_since, IsUnexpired}
 use Rattle.dap_model.specs.Run.{printed_from, state_after}
-use Rattle.dap_model.specs.State.{State, has_key, known_in, opening, Batch, has_bucket, is_closed}
+use Rattle.dap_model.specs.State.{State, has_key, known_in, Batch, has_bucket, is_closed}
 use Rattle.dap_model.specs.Step.{raised, Outcome, after_judgement, measure_of, offered, refused, step}
 use Rattle.dap_model.specs.declared.printed.Printed.{Printed}
 use Rattle.dap_bytes.specs.declared.span.Span.{Span}
@@ -56,7 +56,13 @@ times_of-push : (done : List Line) (l : Line) → times_of (done ++ l ∷ []) �
 times_of-push [] l = append-nil (time_in l)
 times_of-push (x ∷ done) l = ap (λ r. time_in x ++ r) (times_of-push done l) ∙ sym (append_assoc (time_in x) (times_of done) (time_in l))
 
-module _ (f : Kind → Functions) (tasks : List PlainTask) where
+times_since-push : (moment : Option ℕ) (done : List Line) (l : Line) → times_since moment (done ++ l ∷ []) ≡ times_since moment done ++ time_in l
+times_since-push moment done l = ap (λ r. option_to_list moment ++ r) (times_of-push done l) ∙ sym (append_assoc (option_to_list moment) (times_of done) (time_in l))
+
+module _ (f : Kind → Functions) (opened : State) where
+  abbrev tasks : List PlainTask
+  tasks = opened.tasks
+
   -- the reports that a line's measurement makes
   abbrev pub made_by : Line → List Report
   made_by (line.Measure name id time value seed) =
@@ -74,9 +80,9 @@ module _ (f : Kind → Functions) (tasks : List PlainTask) where
   -- the state after lines that are taken
   pub record Stands (done : List Line) (s : State) : Type 0 where
     pub known : s.tasks ≡ tasks
-    pub moment : IsGreatest (times_of done) s.moment
-    pub accepted : s.accepted ≡ reports_of done
-    pub collected : (has_it : Batch → Bool) → list_any (collects has_it) done ≡ false → list_any has_it s.collected ≡ false
+    pub moment : IsGreatest (times_since opened.moment done) s.moment
+    pub accepted : s.accepted ≡ opened.accepted ++ reports_of done
+    pub collected : (has_it : Batch → Bool) → list_any has_it opened.collected ≡ false → list_any (collects has_it) done ≡ false → list_any has_it s.collected ≡ false
 
   made_none : (name id n i : List ℕ) (time : ℕ) (value seed : List ℕ) → (bytes_eq n name && bytes_eq i id) ≡ false
       → list_any (has_key name id) (made_by (line.Measure n i time value seed)) ≡ false
@@ -109,12 +115,12 @@ module _ (f : Kind → Functions) (tasks : List PlainTask) where
   still done l s none untold h = record {
     known = h.known;
     moment = subst (λ (times : List ℕ). IsGreatest times s.moment)
-        (sym (times_of-push done l ∙ ap (λ r. times_of done ++ r) untold ∙ append-nil (times_of done))) h.moment;
-    accepted = h.accepted ∙ sym (reports_of-push done l ∙ ap (λ r. reports_of done ++ r) none ∙ append-nil (reports_of done));
-    collected = λ has_it e. h.collected has_it (or_parts _ _ (sym (list_any-append (collects has_it) done (l ∷ [])) ∙ e)).0;
+        (sym (times_since-push opened.moment done l ∙ ap (λ r. times_since opened.moment done ++ r) untold ∙ append-nil (times_since opened.moment done))) h.moment;
+    accepted = h.accepted ∙ sym (ap (λ r. opened.accepted ++ r) (reports_of-push done l ∙ ap (λ r. reports_of done ++ r) none ∙ append-nil (reports_of done)));
+    collected = λ has_it before e. h.collected has_it before (or_parts _ _ (sym (list_any-append (collects has_it) done (l ∷ [])) ∙ e)).0;
   }
 
-  taken_step : (done : List Line) (s : State) (k : ℕ) (name id : List ℕ) (time : ℕ) (value seed : List ℕ) → Stands done s → (t : IsTaken f tasks done name id time value seed)
+  taken_step : (done : List Line) (s : State) (k : ℕ) (name id : List ℕ) (time : ℕ) (value seed : List ℕ) → Stands done s → (t : IsTaken f opened done name id time value seed)
       → step f s k (line.Measure name id time value seed) ≡ (record s { accepted = s.accepted ++ report_of t.task id time t.shares ∷ [] }, [])
   taken_step done s k name id time value seed h t =
       let a : Report = report_of t.task id time t.shares in
@@ -122,33 +128,35 @@ module _ (f : Kind → Functions) (tasks : List PlainTask) where
       let closed : Bool = is_closed s.collected t.task.name t.task.precision bucket in
       let named : t.task.name ≡ name = found_name name tasks t.task t.known in
       let none : list_any (has_key t.task.name id) s.accepted ≡ false =
-      ap (λ (n : List ℕ). list_any (has_key n id) s.accepted) named ∙ ap (list_any (has_key name id)) h.accepted ∙ no_report name id done t.new in
+      ap (λ (n : List ℕ). list_any (has_key n id) s.accepted) named ∙ ap (list_any (has_key name id)) h.accepted
+      ∙ list_any-append (has_key name id) opened.accepted (reports_of done) ∙ or_from _ _ t.unknown (no_report name id done t.new) in
       let unknown : known_in s.accepted t.task.name id ≡ None = none_known (known_in s.accepted t.task.name id) (is_some-known_in s.accepted t.task.name id ∙ none) in
       let open_ : closed ≡ false =
-      ap (λ (n : List ℕ). is_closed s.collected n t.task.precision bucket) named ∙ h.collected (has_bucket name t.task.precision bucket) t.uncollected in
+      ap (λ (n : List ℕ). is_closed s.collected n t.task.precision bucket) named ∙ h.collected (has_bucket name t.task.precision bucket) t.open_ t.uncollected in
       let found : find (has_name name) s.tasks ≡ Some t.task = ap (find (has_name name)) h.known ∙ t.known in
       ap (λ (o : Option PlainTask). option_map_or (measure_of f s k id time value seed) o (refused s k cause.Task)) found
       ∙ ap (λ (o : Option Parts). option_map_or (offered s k t.task) (option_map (report_of t.task id time) o) (refused s k cause.Value)) t.shared
       ∙ ap (after_judgement s k a) (judged_added (known_in s.accepted t.task.name id) s.moment t.task.expires closed (report.spell a) time unknown
-      (not_early (times_of done) s.moment time h.moment t.timely) (not_expired (times_of done) s.moment t.task.expires h.moment t.unexpired) open_)
+      (not_early (times_since opened.moment done) s.moment time h.moment t.timely) (not_expired (times_since opened.moment done) s.moment t.task.expires h.moment t.unexpired) open_)
 
-  pub made_is : (done : List Line) (name id : List ℕ) (time : ℕ) (value seed : List ℕ) (t : IsTaken f tasks done name id time value seed)
+  pub made_is : (done : List Line) (name id : List ℕ) (time : ℕ) (value seed : List ℕ) (t : IsTaken f opened done name id time value seed)
       → made_by (line.Measure name id time value seed) ≡ report_of t.task id time t.shares ∷ []
   made_is done name id time value seed t =
       ap (λ (o : Option PlainTask). option_map_or (λ t. option_map_or (λ p. report_of t id time p ∷ []) ((f t.kind).shard id value seed) []) o []) t.known
       ∙ ap (λ (o : Option Parts). option_map_or (λ p. report_of t.task id time p ∷ []) o []) t.shared
 
-  measured_stands : (done : List Line) (s : State) (k : ℕ) (name id : List ℕ) (time : ℕ) (value seed : List ℕ) → Stands done s → IsTaken f tasks done name id time value seed
+  measured_stands : (done : List Line) (s : State) (k : ℕ) (name id : List ℕ) (time : ℕ) (value seed : List ℕ) → Stands done s → IsTaken f opened done name id time value seed
       → Stands (done ++ line.Measure name id time value seed ∷ []) (step f s k (line.Measure name id time value seed)).0
   measured_stands done s k name id time value seed h t =
       let l : Line = line.Measure name id time value seed in
       subst (Stands (done ++ l ∷ [])) (sym (ap (λ (o : Outcome). o.0) (taken_step done s k name id time value seed h t)))
       (record {
         known = h.known;
-        moment = subst (λ (times : List ℕ). IsGreatest times s.moment) (sym (times_of-push done l ∙ append-nil (times_of done))) h.moment;
+        moment = subst (λ (times : List ℕ). IsGreatest times s.moment) (sym (times_since-push opened.moment done l ∙ append-nil (times_since opened.moment done))) h.moment;
         accepted = ap (λ r. r ++ report_of t.task id time t.shares ∷ []) h.accepted
-            ∙ sym (reports_of-push done l ∙ ap (λ r. reports_of done ++ r) (made_is done name id time value seed t));
-        collected = λ has_it e. h.collected has_it (or_parts _ _ (sym (list_any-append (collects has_it) done (l ∷ [])) ∙ e)).0;
+            ∙ append_assoc opened.accepted (reports_of done) (report_of t.task id time t.shares ∷ [])
+            ∙ sym (ap (λ r. opened.accepted ++ r) (reports_of-push done l ∙ ap (λ r. reports_of done ++ r) (made_is done name id time value seed t)));
+        collected = λ has_it before e. h.collected has_it before (or_parts _ _ (sym (list_any-append (collects has_it) done (l ∷ [])) ∙ e)).0;
       })
 
   collected_stands : (done : List Line) (s : State) (k : ℕ) (name : List ℕ) (span : Span) → Stands done s → Stands (done ++ line.Collect name span ∷ []) (step f s k (line.Collect name span)).0
@@ -161,20 +169,21 @@ module _ (f : Kind → Functions) (tasks : List PlainTask) where
         known = h.known;
         moment = (still done (line.Collect name span) s refl refl h).moment;
         accepted = (still done (line.Collect name span) s refl refl h).accepted;
-        collected = λ has_it e.
+        collected = λ has_it before e.
             let p = or_parts (list_any (collects has_it) done) (list_any (collects has_it) (line.Collect name span ∷ [])) (sym (list_any-append (collects has_it) done (line.Collect name span ∷ [])) ∙ e) in
-            list_any-append has_it s.collected (record { task = name; span = span } ∷ []) ∙ or_from _ _ (h.collected has_it p.0) p.1;
+            list_any-append has_it s.collected (record { task = name; span = span } ∷ []) ∙ or_from _ _ (h.collected has_it before p.0) p.1;
       })
 
   told_stands : (done : List Line) (s : State) (t : ℕ) → Stands done s → Stands (done ++ line.Now t ∷ []) (record s { moment = raised s.moment t })
   told_stands done s t h = record {
     known = h.known;
-    moment = subst (λ (times : List ℕ). IsGreatest times (raised s.moment t)) (sym (times_of-push done (line.Now t))) (greatest-push (times_of done) s.moment t h.moment);
-    accepted = h.accepted ∙ sym (reports_of-push done (line.Now t) ∙ append-nil (reports_of done));
-    collected = λ has_it e. h.collected has_it (or_parts _ _ (sym (list_any-append (collects has_it) done (line.Now t ∷ [])) ∙ e)).0;
+    moment = subst (λ (times : List ℕ). IsGreatest times (raised s.moment t)) (sym (times_since-push opened.moment done (line.Now t)))
+        (greatest-push (times_since opened.moment done) s.moment t h.moment);
+    accepted = h.accepted ∙ sym (ap (λ r. opened.accepted ++ r) (reports_of-push done (line.Now t) ∙ append-nil (reports_of done)));
+    collected = λ has_it before e. h.collected has_it before (or_parts _ _ (sym (list_any-append (collects has_it) done (line.Now t ∷ [])) ∙ e)).0;
   }
 
-  step_stands : (done : List Line) (s : State) (k : ℕ) (l : Line) → Stands done s → IsTakenLine f tasks done l → Stands (done ++ l ∷ []) (step f s k l).0
+  step_stands : (done : List Line) (s : State) (k : ℕ) (l : Line) → Stands done s → IsTakenLine f opened done l → Stands (done ++ l ∷ []) (step f s k l).0
   step_stands done s k line.Blank h t = still done line.Blank s refl refl h
   step_stands done s k (line.Task name kind min precision expires) h t = still done (line.Task name kind min precision expires) s refl refl h
   step_stands done s k (line.Now moment) h t = told_stands done s moment h
@@ -183,16 +192,21 @@ module _ (f : Kind → Functions) (tasks : List PlainTask) where
   step_stands done s k (line.Collect name span) h t = collected_stands done s k name span h
   step_stands done s k (line.Restart node) h t = still done (line.Restart node) s refl refl h
 
-  pub run_stands : (done : List Line) (s : State) (k : ℕ) (lines : List Line) → Stands done s → AreTaken f tasks done lines → Stands (done ++ lines) (state_after f s k lines)
+  pub run_stands : (done : List Line) (s : State) (k : ℕ) (lines : List Line) → Stands done s → AreTaken f opened done lines → Stands (done ++ lines) (state_after f s k lines)
   run_stands done s k [] h t = subst (λ l. Stands l s) (sym (append-nil done)) h
   run_stands done s k (l ∷ more) h t =
       subst (λ d. Stands d (state_after f (step f s k l).0 (k + 1) more)) (append_assoc done (l ∷ []) more)
       (run_stands (done ++ l ∷ []) (step f s k l).0 (k + 1) more (step_stands done s k l h t.0) t.1)
 
-  pub opening_stands : Stands [] (opening tasks)
-  opening_stands = record { known = refl; moment = refl; accepted = refl; collected = λ has_it e. refl }
+  pub opening_stands : Stands [] opened
+  opening_stands = record {
+    known = refl;
+    moment = subst (λ (times : List ℕ). IsGreatest times opened.moment) (sym (append-nil (option_to_list opened.moment))) (greatest-first opened.moment);
+    accepted = sym (append-nil opened.accepted);
+    collected = λ has_it before e. before;
+  }
 
-  line_prints : (done : List Line) (s : State) (k : ℕ) (l : Line) → Stands done s → IsTakenLine f tasks done l → is_collection l ≡ false → (step f s k l).1 ≡ []
+  line_prints : (done : List Line) (s : State) (k : ℕ) (l : Line) → Stands done s → IsTakenLine f opened done l → is_collection l ≡ false → (step f s k l).1 ≡ []
   line_prints done s k line.Blank h t e = refl
   line_prints done s k (line.Task name kind min precision expires) h t e = refl
   line_prints done s k (line.Now moment) h t e = refl
@@ -201,12 +215,12 @@ module _ (f : Kind → Functions) (tasks : List PlainTask) where
   line_prints done s k (line.Collect name span) h t e = cc e
   line_prints done s k (line.Restart node) h t e = refl
 
-  run_prints : (done : List Line) (s : State) (k : ℕ) (lines : List Line) → Stands done s → AreTaken f tasks done lines → list_any is_collection lines ≡ false → printed_from f s k lines ≡ []
+  run_prints : (done : List Line) (s : State) (k : ℕ) (lines : List Line) → Stands done s → AreTaken f opened done lines → list_any is_collection lines ≡ false → printed_from f s k lines ≡ []
   run_prints done s k [] h t e = refl
   run_prints done s k (l ∷ more) h t e =
       let p = or_parts (is_collection l) (list_any is_collection more) e in
       ap (λ (printed : List Printed). printed ++ printed_from f (step f s k l).0 (k + 1) more) (line_prints done s k l h t.0 p.0)
       ∙ run_prints (done ++ l ∷ []) (step f s k l).0 (k + 1) more (step_stands done s k l h t.0) t.1 p.1
 
-  pub measurements_print_nothing : (lines : List Line) → AreTaken f tasks [] lines → list_any is_collection lines ≡ false → printed_from f (opening tasks) 1 lines ≡ []
-  measurements_print_nothing lines t e = run_prints [] (opening tasks) 1 lines opening_stands t e
+  pub measurements_print_nothing : (lines : List Line) → AreTaken f opened [] lines → list_any is_collection lines ≡ false → printed_from f opened 1 lines ≡ []
+  measurements_print_nothing lines t e = run_prints [] opened 1 lines opening_stands t e

@@ -12,14 +12,14 @@ use Rattle.dap_model.proofs.ChangeLaws.{changes_named}
 use Rattle.dap_model.proofs.UploadLaws.{upload-honest}
 use Rattle.dap_model.specs.Changes.{ChangesNamed}
 use Rattle.dap_model.specs.Printed.{text_of}
-use Rattle.dap_model.specs.Run.{model_text, printed_from, task_in, tasks_of}
-use Rattle.dap_model.specs.State.{State, opening}
+use Rattle.dap_model.specs.Run.{model_text, opening_of, printed_from, task_in, tasks_of}
+use Rattle.dap_model.specs.State.{State, with_tasks}
 use Rattle.dap_model.specs.Step.{Outcome, step}
 use Rattle.dap_model.specs.Uploaded.{IsOrUploads}
 use Rattle.dap_model.specs.Uploads.{IsHonest}
 
 -- no line changes the tasks
-tasks_kept : (s after : State) (l : Line) → ChangesNamed s after l → after.tasks ≡ s.tasks
+pub tasks_kept : (s after : State) (l : Line) → ChangesNamed s after l → after.tasks ≡ s.tasks
 tasks_kept s after line.Blank h = ap (λ (x : State). x.tasks) h
 tasks_kept s after (line.Task name kind min precision expires) h = ap (λ (x : State). x.tasks) h
 tasks_kept s after (line.Now t) h = ap (λ (x : State). x.tasks) h
@@ -57,9 +57,9 @@ module _ (f : Kind → Functions) (tasks : List PlainTask) (laws : (k : Kind) �
       ap (λ (o : Outcome). o.1 ++ printed_from f o.0 (k + 1) ys) (same_step s k x y known h.0)
       ∙ ap (λ p. (step f s k x).1 ++ p) (same_printed after (k + 1) xs ys (tasks_kept s after x (changes_named f s k x) ∙ known) h.1)
 
-pub uploaded-same : (f : Kind → Functions) → ((k : Kind) → IsKind k → FunctionLaws (f k)) → (given : List PlainTask) (lines others : List Line)
-    → AllZip (IsOrUploads f (given ++ tasks_of lines)) lines others → model_text f given others ≡ model_text f given lines
-uploaded-same f laws given lines others h =
-    let tasks : List PlainTask = given ++ tasks_of lines in
-    ap (λ (t : List PlainTask). text_of (printed_from f (opening (given ++ t)) 1 others)) (same_tasks f tasks laws lines others h)
-    ∙ ap text_of (same_printed f tasks laws (opening tasks) 1 lines others refl h)
+pub uploaded-same : (f : Kind → Functions) → ((k : Kind) → IsKind k → FunctionLaws (f k)) → (opened : State) (lines others : List Line)
+    → AllZip (IsOrUploads f (opening_of opened lines).tasks) lines others → model_text f opened others ≡ model_text f opened lines
+uploaded-same f laws opened lines others h =
+    let tasks : List PlainTask = (opening_of opened lines).tasks in
+    ap (λ (t : List PlainTask). text_of (printed_from f (with_tasks opened t) 1 others)) (same_tasks f tasks laws lines others h)
+    ∙ ap text_of (same_printed f tasks laws (opening_of opened lines) 1 lines others refl h)

@@ -1,5 +1,5 @@
 -- What a collection prints, in the measurements of the lines before it.
-use Rattle.std.specs.Prelude.{◌≡◌, ℕ, List, [], ◌∷◌, ◌++◌, length, count_by, Bool, true, false, ◌&&◌, nat_le, if◌then◌else◌, Option, Some, None}
+use Rattle.std.specs.Prelude.{◌≡◌, ℕ, ◌+◌, List, [], ◌∷◌, ◌++◌, length, count_by, Bool, true, false, ◌&&◌, nat_le, if◌then◌else◌, Option, Some, None}
 use Rattle.std.specs.List.{flat_map, list_any, sum_by}
 use Rattle.std.specs.Option.{option_to_list}
 use Rattle.std.specs.Str.{bytes_eq}
@@ -13,10 +13,10 @@ use Rattle.dap_batch.specs.Group.{batch_start}
 use Rattle.dap_tasks.specs.Task.{PlainTask}
 use Rattle.dap_script.specs.declared.line.Line.{Line}
 use Rattle.dap_script.specs.declared.line.Line.TheVariants as line
-use Rattle.dap_model.specs.Moments.{IsTimely, IsUnexpired, times_of}
+use Rattle.dap_model.specs.Moments.{IsTimely, IsUnexpired, times_since}
 use Rattle.dap_model.specs.Run.{state_after}
-use Rattle.dap_model.specs.State.{Batch, has_bucket, lies_in, opening, task_named}
-use Rattle.dap_model.specs.Step.{step}
+use Rattle.dap_model.specs.State.{Batch, State, batch_rejected, contents_in, has_bucket, has_key, is_closed, lies_in, task_named}
+use Rattle.dap_model.specs.Step.{reports_with_content, step}
 use Rattle.dap_model.specs.declared.printed.Printed.{Printed}
 use Rattle.dap_model.specs.declared.printed.Printed.TheVariants.{Collected, Small}
 
@@ -76,20 +76,27 @@ vectors_in g task start [] = []
 vectors_in g task start (l ∷ more) =
     (if falls_in task start l then option_to_list (measured g l) else []) ++ vectors_in g task start more
 
--- the vectors of the measurements that fall in the task's batch: those of its buckets, one after the other
-abbrev pub batch_vectors : Functions → PlainTask → Span → List Line → List (List ℕ)
-batch_vectors g task span lines = flat_map (λ start. vectors_in g task start lines) (buckets_of span task.precision)
+-- the contents of the task's bucket behind these lines: those of the reports that were accepted before them, and then
+-- the vectors of the measurements that fall in it
+abbrev pub bucket_behind : (Kind → Functions) → PlainTask → State → List Line → ℕ → List (List ℕ)
+bucket_behind f task opened lines start =
+    contents_in f task start opened.accepted ++ vectors_in (f task.kind) task start lines
+
+-- the contents of the task's batch behind these lines: those of its buckets, one after the other
+abbrev pub contents_behind : (Kind → Functions) → PlainTask → Span → State → List Line → List (List ℕ)
+contents_behind f task span opened lines = flat_map (bucket_behind f task opened lines) (buckets_of span task.precision)
 
 -- how many measurements fall in the task's batch
 abbrev pub measured_in : PlainTask → Span → List Line → ℕ
 measured_in task span lines = sum_by (λ start. count_by (falls_in task start) lines) (buckets_of span task.precision)
 
--- A measurement of a known task after these lines: its shares are fair, it isn't early, its task hasn't expired, none of
--- the lines measures under its identifier, and none collects a batch that holds its bucket.
-pub record IsTaken (f : Kind → Functions) (tasks : List PlainTask) (done : List Line)
+-- A measurement of a known task after these lines, which begin in this state: its shares are fair, it isn't early, its
+-- task hasn't expired, its identifier is that of no accepted report and none of the lines measures under it, and its
+-- bucket lies in no collected batch and none of the lines collects one that holds it.
+pub record IsTaken (f : Kind → Functions) (opened : State) (done : List Line)
     (name id : List ℕ) (time : ℕ) (value seed : List ℕ) : Type 0 where
   pub task : PlainTask
-  pub known : task_named tasks name ≡ Some task
+  pub known : task_named opened.tasks name ≡ Some task
   pub kind : IsKind task.kind
   pub key_bytes : length task.verify ≡ 16
   pub id_bytes : length id ≡ 16
@@ -97,37 +104,42 @@ pub record IsTaken (f : Kind → Functions) (tasks : List PlainTask) (done : Lis
   pub shares : Parts
   pub shared : (f task.kind).shard id value seed ≡ Some shares
   pub fair : (f task.kind).is_fair task.verify id ≡ true
-  pub timely : IsTimely (times_of done) time
-  pub unexpired : IsUnexpired (times_of done) task.expires
+  pub timely : IsTimely (times_since opened.moment done) time
+  pub unexpired : IsUnexpired (times_since opened.moment done) task.expires
+  pub unknown : list_any (has_key name id) opened.accepted ≡ false
   pub new : list_any (measures name id) done ≡ false
+  pub open_ : is_closed opened.collected name task.precision (batch_start time task.precision) ≡ false
   pub uncollected : list_any (collects (has_bucket name task.precision (batch_start time task.precision))) done ≡ false
 
 -- a line after these that accepts what it measures, if it measures, and that uploads nothing
-abbrev pub IsTakenLine : (Kind → Functions) → List PlainTask → List Line → Line → Type 0
-IsTakenLine f tasks done (line.Measure name id time value seed) = IsTaken f tasks done name id time value seed
-IsTakenLine f tasks done (line.Now t) = Unit {0}
-IsTakenLine f tasks done line.Blank = Unit {0}
-IsTakenLine f tasks done (line.Task name kind min precision expires) = Unit {0}
-IsTakenLine f tasks done (line.Upload report) = ⊥
-IsTakenLine f tasks done (line.Collect name span) = Unit {0}
-IsTakenLine f tasks done (line.Restart node) = Unit {0}
+abbrev pub IsTakenLine : (Kind → Functions) → State → List Line → Line → Type 0
+IsTakenLine f opened done (line.Measure name id time value seed) = IsTaken f opened done name id time value seed
+IsTakenLine f opened done (line.Now t) = Unit {0}
+IsTakenLine f opened done line.Blank = Unit {0}
+IsTakenLine f opened done (line.Task name kind min precision expires) = Unit {0}
+IsTakenLine f opened done (line.Upload report) = ⊥
+IsTakenLine f opened done (line.Collect name span) = Unit {0}
+IsTakenLine f opened done (line.Restart node) = Unit {0}
 
 -- such lines, one after another, after these
-abbrev pub AreTaken : (Kind → Functions) → List PlainTask → List Line → List Line → Type 0
-AreTaken f tasks done [] = Unit {0}
-AreTaken f tasks done (l ∷ more) = IsTakenLine f tasks done l × AreTaken f tasks (done ++ l ∷ []) more
+abbrev pub AreTaken : (Kind → Functions) → State → List Line → List Line → Type 0
+AreTaken f opened done [] = Unit {0}
+AreTaken f opened done (l ∷ more) = IsTakenLine f opened done l × AreTaken f opened (done ++ l ∷ []) more
 
--- The batch has as many reports as measurements fall in it, and its answer is that of the sum of their vectors.
-abbrev pub counted_line : (Kind → Functions) → PlainTask → Span → List Line → Printed
-counted_line f task span lines =
-    let reports = measured_in task span lines in
-    let total = total_numbers (f task.kind).space (batch_vectors (f task.kind) task span lines) in
+-- Behind these lines the batch has as many reports more as measurements fall in it, and none more that is rejected; and
+-- its answer is that of the sum of its contents before and of their vectors.
+abbrev pub counted_line : (Kind → Functions) → PlainTask → Span → State → List Line → Printed
+counted_line f task span opened lines =
+    let reports = reports_with_content f opened task span + measured_in task span lines in
+    let rejected = batch_rejected f task span opened.accepted in
+    let total = total_numbers (f task.kind).space (contents_behind f task span opened lines) in
     if nat_le task.min reports
-    then (Collected task.name span (record { reports = reports; rejected = 0; answer = (f task.kind).answer total }))
+    then (Collected task.name span (record { reports = reports; rejected = rejected; answer = (f task.kind).answer total }))
     else (Small task.name span reports)
 
--- Line `number`, which collects the task's batch behind these lines, prints what is counted in them.
-abbrev pub PrintsCounted : (Kind → Functions) → List PlainTask → PlainTask → Span → ℕ → List Line → Type 0
-PrintsCounted f tasks task span number lines =
-    let before = state_after f (opening tasks) 1 lines in
-    (step f before number (line.Collect task.name span)).1 ≡ counted_line f task span lines ∷ []
+-- Line `number`, which collects the task's batch behind these lines, prints what is counted in the state in which they
+-- begin and in them.
+abbrev pub PrintsCounted : (Kind → Functions) → State → PlainTask → Span → ℕ → List Line → Type 0
+PrintsCounted f opened task span number lines =
+    let before = state_after f opened 1 lines in
+    (step f before number (line.Collect task.name span)).1 ≡ counted_line f task span opened lines ∷ []

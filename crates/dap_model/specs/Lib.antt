@@ -13,8 +13,10 @@ pub mod Offers
 pub mod Passes
 pub mod Printed
 pub mod Run
+pub mod SameStates
 pub mod Segments
 pub mod State
 pub mod Step
 pub mod Uploaded
 pub mod Uploads
+pub mod WholeLines

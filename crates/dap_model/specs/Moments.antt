@@ -1,6 +1,7 @@
 -- The moment, in the times of the lines.
 use Rattle.std.specs.Prelude.{◌≡◌, ◌⊎◌, ◌<◌, ◌≤◌, ℕ, List, [], ◌∷◌, ◌++◌, false, Option, Some, None}
 use Rattle.std.specs.List.{All, Contains}
+use Rattle.std.specs.Option.{option_to_list}
 use Rattle.dap_tasks.specs.Judged.{is_early}
 use Rattle.dap_script.specs.declared.line.Line.{Line}
 use Rattle.dap_script.specs.declared.line.Line.TheVariants as line
@@ -19,6 +20,10 @@ time_in (line.Restart node) = []
 abbrev pub times_of : List Line → List ℕ
 times_of [] = []
 times_of (l ∷ more) = time_in l ++ times_of more
+
+-- the moment, where one is known, and the times that lines tell behind it
+abbrev pub times_since : Option ℕ → List Line → List ℕ
+times_since moment lines = option_to_list moment ++ times_of lines
 
 -- the greatest of the times, or none where there are none
 abbrev pub IsGreatest : List ℕ → Option ℕ → Type 0

@@ -4,7 +4,6 @@ use Rattle.std.specs.List.{Contains}
 use Rattle.dap_bytes.specs.declared.span.Span.{Span}
 use Rattle.vdaf_api.specs.Functions.{Functions}
 use Rattle.vdaf_api.specs.declared.kind.Kind.{Kind}
-use Rattle.dap_tasks.specs.Task.{PlainTask}
 use Rattle.dap_tasks.specs.declared.cause.Cause.{Cause}
 use Rattle.dap_script.specs.declared.line.Line.{Line}
 use Rattle.dap_model.specs.Printed.{text_of}
@@ -32,9 +31,9 @@ printed_around f first before l behind =
 
 -- The script prints what the lines before this one print, then what this one prints as the line of its number, then
 -- what the lines behind it print.
-pub record PrintsByItsNumber (f : Kind → Functions) (given : List PlainTask)
+pub record PrintsByItsNumber (f : Kind → Functions) (opened : State)
     (before : List Line) (l : Line) (behind : List Line) : Type 0 where
-  pub text : (let first = opening_of given (before ++ l ∷ behind) in
-      model_text f given (before ++ l ∷ behind) ≡ text_of (printed_around f first before l behind))
-  pub numbered : (let first = opening_of given (before ++ l ∷ behind) in
+  pub text : (let first = opening_of opened (before ++ l ∷ behind) in
+      model_text f opened (before ++ l ∷ behind) ≡ text_of (printed_around f first before l behind))
+  pub numbered : (let first = opening_of opened (before ++ l ∷ behind) in
       AreOfLine (length before + 1) (in_its_place f first before l).1)

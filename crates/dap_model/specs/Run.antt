@@ -7,7 +7,7 @@ use Rattle.dap_tasks.specs.Trial.{trial_of}
 use Rattle.dap_script.specs.declared.line.Line.{Line}
 use Rattle.dap_script.specs.declared.line.Line.TheVariants as line
 use Rattle.dap_model.specs.Printed.{text_of}
-use Rattle.dap_model.specs.State.{State, opening}
+use Rattle.dap_model.specs.State.{State, with_tasks}
 use Rattle.dap_model.specs.Step.{step}
 use Rattle.dap_model.specs.declared.printed.Printed.{Printed}
 
@@ -36,10 +36,10 @@ abbrev pub state_after : (Kind → Functions) → State → ℕ → List Line �
 state_after f s k [] = s
 state_after f s k (l ∷ more) = state_after f (step f s k l).0 (k + 1) more
 
--- the empty state, in which the given tasks and the script's are known
-abbrev pub opening_of : List PlainTask → List Line → State
-opening_of given lines = opening (given ++ tasks_of lines)
+-- the state in which a script begins: the one before it, in which the script's own tasks are known too
+abbrev pub opening_of : State → List Line → State
+opening_of opened lines = with_tasks opened (tasks_of lines)
 
--- what a script prints, from its opening state
-abbrev pub model_text : (Kind → Functions) → List PlainTask → List Line → List ℕ
-model_text f given lines = text_of (printed_from f (opening_of given lines) 1 lines)
+-- what a script prints that begins in this state
+abbrev pub model_text : (Kind → Functions) → State → List Line → List ℕ
+model_text f opened lines = text_of (printed_from f (opening_of opened lines) 1 lines)

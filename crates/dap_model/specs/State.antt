@@ -30,6 +30,14 @@ pub record State : Type 0 where
 abbrev pub opening : List PlainTask → State
 opening tasks = record { tasks = tasks; moment = None; accepted = []; collected = [] }
 
+-- these tasks are known too, behind the others
+abbrev pub with_tasks : State → List PlainTask → State
+with_tasks s tasks = record s { tasks = s.tasks ++ tasks }
+
+-- the names of tasks
+abbrev pub names_of : List PlainTask → List (List ℕ)
+names_of tasks = map (λ task. task.name) tasks
+
 -- the batch of this task that starts there and has so many buckets
 abbrev pub is_batch : List ℕ → Span → Batch → Bool
 is_batch name span b = bytes_eq b.task name && (nat_eq b.span.start span.start && nat_eq b.span.buckets span.buckets)

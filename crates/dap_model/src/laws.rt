@@ -1,7 +1,8 @@
 //! Laws of the plain model, in the words of who reads its output.
 
-ghost use Rattle.std.specs.Prelude.{◌≡◌, ◌⊎◌, ◌<◌, ◌≤◌, ℕ, List, [], ◌∷◌, ◌++◌, length, Some, true, false, take, filter_map};
-ghost use Rattle.std.specs.List.{All, AllZip, list_any};
+ghost use Rattle.std.specs.Prelude.{◌≡◌, ◌⊎◌, ◌<◌, ◌≤◌, ℕ, ◌+◌, List, [], ◌∷◌, ◌++◌, length, None, Some, true, false, take, filter_map};
+ghost use Rattle.std.specs.List.{All, AllZip, IsDistinct, list_any};
+ghost use Rattle.std.specs.Str.{bytes_eq};
 ghost use Rattle.dap_bytes.specs.Spans.{HasBuckets, passes_start};
 ghost use Rattle.dap_bytes.specs.declared.span.Span.{Span as PlainSpan};
 ghost use Rattle.vdaf_api.specs.Functions.{Functions};
@@ -20,16 +21,16 @@ ghost use Rattle.dap_model.specs.Collections.{CollectsByTheFirstCause, HoldsRepo
 ghost use Rattle.dap_model.specs.Counts.{AreTaken, PrintsCounted, collects, is_collection};
 ghost use Rattle.dap_model.specs.Growth.{GrowsTo};
 ghost use Rattle.dap_model.specs.Honest.{CarryEach, honest_line};
-ghost use Rattle.dap_model.specs.Limits.{report_offered, reports_offered, text_before, whole_segments};
-ghost use Rattle.dap_model.specs.Moments.{IsGreatest, times_of};
+ghost use Rattle.dap_model.specs.Limits.{count_names, report_offered, reports_offered, text_before, whole_segments};
+ghost use Rattle.dap_model.specs.Moments.{IsGreatest, times_since};
 ghost use Rattle.dap_model.specs.Numbers.{PrintsByItsNumber};
 ghost use Rattle.dap_model.specs.Offering.{CountsWhatIsJudged};
 ghost use Rattle.dap_model.specs.Segments.{AreWholeSegments, TellsWholeSegments};
 ghost use Rattle.dap_model.specs.Offers.{IsJudged};
-ghost use Rattle.dap_model.specs.Passes.{IsExact};
+ghost use Rattle.dap_model.specs.Passes.{IsExact, IsFullExact};
 ghost use Rattle.dap_model.specs.declared.limits.Limits.{Limits as PlainLimits};
-ghost use Rattle.dap_model.specs.Run.{model_text, printed_from, state_after, tasks_of};
-ghost use Rattle.dap_model.specs.State.{State, opening, shares_with, task_named};
+ghost use Rattle.dap_model.specs.Run.{model_text, opening_of, printed_from, state_after, tasks_of};
+ghost use Rattle.dap_model.specs.State.{State, shares_with, task_named};
 ghost use Rattle.dap_model.specs.Step.{offered, step};
 ghost use Rattle.dap_model.specs.Uploaded.{IsOrUploads};
 ghost use Rattle.dap_model.specs.Uploads.{GoesByTheFirstCause, IsHonest, MeasuresByTheFirstCause};
@@ -37,21 +38,23 @@ ghost use Rattle.dap_model.specs.Uploads.{GoesByTheFirstCause, IsHonest, Measure
 use vdaf_api::Vdaf;
 
 /// A law: where each measurement of the lines is a fair one of a known task that hasn't expired, isn't early, and is under
-/// an identifier and in a bucket that no line before it takes, a collection of a batch of which no bucket was collected
-/// prints one line. Its reports are the measurements that fall in the batch, none is rejected, and its answer is that of
-/// the sum of their vectors.
+/// an identifier and in a bucket that neither the state in which the lines begin nor a line before it takes, a collection
+/// of a batch of which no bucket was collected prints one line. To the reports that the batch had before the lines come the
+/// measurements that fall in it, none of which is rejected, and its answer is that of the sum of its contents and of their
+/// vectors.
 pub fn batches_are_counted<V: Vdaf>(_: &V)
-    ensures { (tasks : List PlainTask) (task : PlainTask) (span : PlainSpan) (number : ℕ) (lines : List PlainLine)
-        → task_named tasks task.name ≡ Some task → HasBuckets span → passes_start span task.precision ≡ true
-        → AreTaken V.of_kind tasks [] lines → list_any (collects (shares_with task span)) lines ≡ false
-        → PrintsCounted V.of_kind tasks task span number lines }
+    ensures { (opened : State) (task : PlainTask) (span : PlainSpan) (number : ℕ) (lines : List PlainLine)
+        → task_named opened.tasks task.name ≡ Some task → HasBuckets span → passes_start span task.precision ≡ true
+        → AreTaken V.of_kind opened [] lines → list_any (shares_with task span) opened.collected ≡ false
+        → list_any (collects (shares_with task span)) lines ≡ false
+        → PrintsCounted V.of_kind opened task span number lines }
 {}
 
 /// A law: such lines print nothing, if none of them is a collection.
 pub fn measurements_print_nothing()
-    ensures { (f : Kind → Functions) (tasks : List PlainTask) (lines : List PlainLine)
-        → AreTaken f tasks [] lines → list_any is_collection lines ≡ false
-        → printed_from f (opening tasks) 1 lines ≡ [] }
+    ensures { (f : Kind → Functions) (opened : State) (lines : List PlainLine)
+        → AreTaken f opened [] lines → list_any is_collection lines ≡ false
+        → printed_from f opened 1 lines ≡ [] }
 {}
 
 /// A law: a line changes nothing but what it names.
@@ -61,12 +64,12 @@ pub fn lines_change_what_they_name()
 {}
 
 /// A law: no two accepted reports have the same task and identifier, so that no report is counted twice. Each line
-/// keeps this, so it holds after all lines.
+/// keeps this, so it holds after all lines, where it holds before them, as where no report is accepted.
 pub fn reports_are_accepted_once()
     ensures line { (f : Kind → Functions) (state : State) (number : ℕ) (line : PlainLine)
         → AreDistinct state.accepted → AreDistinct (step f state number line).0.accepted }
-    ensures run { (f : Kind → Functions) (tasks : List PlainTask) (lines : List PlainLine)
-        → AreDistinct (state_after f (opening tasks) 1 lines).accepted }
+    ensures run { (f : Kind → Functions) (state : State) (number : ℕ) (lines : List PlainLine)
+        → AreDistinct state.accepted → AreDistinct (state_after f state number lines).accepted }
 {}
 
 /// A law: an upload of the bytes of the honest report of a measurement changes and prints what the measurement does.
@@ -80,9 +83,9 @@ pub fn honest_uploads_are_measurements<V: Vdaf>(_: &V)
 /// A law: a script in which some measurements of known tasks are replaced by uploads of their honest reports prints the
 /// same.
 pub fn uploaded_scripts_print_the_same<V: Vdaf>(_: &V)
-    ensures { (given : List PlainTask) (lines others : List PlainLine)
-        → AllZip (IsOrUploads V.of_kind (given ++ tasks_of lines)) lines others
-        → model_text V.of_kind given others ≡ model_text V.of_kind given lines }
+    ensures { (opened : State) (lines others : List PlainLine)
+        → AllZip (IsOrUploads V.of_kind (opening_of opened lines).tasks) lines others
+        → model_text V.of_kind opened others ≡ model_text V.of_kind opened lines }
 {}
 
 /// A law: a measurement is refused `task` where its name is no known task's, else `value` where sharding has no value;
@@ -126,13 +129,13 @@ pub fn collections_are_repeated()
 {}
 
 /// A law: the collected batches of a task share no bucket, so that no report counts in two of them. Each line keeps this,
-/// so it holds after all lines. A bucket then lies in one collected batch at most, and of those that share a bucket with
-/// a batch one alone starts first.
+/// so it holds after all lines, where it holds before them, as where no batch is collected. A bucket then lies in one
+/// collected batch at most, and of those that share a bucket with a batch one alone starts first.
 pub fn collected_batches_share_no_bucket()
     ensures line { (f : Kind → Functions) (state : State) (number : ℕ) (line : PlainLine)
         → IsInRange line → IsApart state → IsApart (step f state number line).0 }
-    ensures run { (f : Kind → Functions) (tasks : List PlainTask) (lines : List PlainLine)
-        → All IsInRange lines → IsApart (state_after f (opening tasks) 1 lines) }
+    ensures run { (f : Kind → Functions) (state : State) (number : ℕ) (lines : List PlainLine)
+        → All IsInRange lines → IsApart state → IsApart (state_after f state number lines) }
     ensures bucket { (state : State) (task : PlainTask) (span other : PlainSpan) (bucket : ℕ)
         → IsApart state → task_named state.tasks task.name ≡ Some task
         → HoldsCollected state task span bucket → HoldsCollected state task other bucket → span ≡ other }
@@ -149,17 +152,35 @@ pub fn batches_hold_their_reports_once()
         → HoldsReportsOnce state task span }
 {}
 
-/// A law: the moment is the greatest of the times that the lines so far told, and there is none before the first.
+/// A law: the moment is the greatest of the one that was known before the lines and of the times that they told, and there
+/// is none where none was known and none told.
 pub fn moments_are_the_greatest()
-    ensures { (f : Kind → Functions) (tasks : List PlainTask) (lines : List PlainLine)
-        → IsGreatest (times_of lines) (state_after f (opening tasks) 1 lines).moment }
+    ensures { (f : Kind → Functions) (state : State) (number : ℕ) (lines : List PlainLine)
+        → IsGreatest (times_since state.moment lines) (state_after f state number lines).moment }
 {}
 
 /// A law: a limit is passed exactly where the reports of the whole script are more or longer than it. The line that is
 /// told is the first with which one is passed, and limit 2 is told where both are passed with it.
 pub fn passed_limits_are_exact()
-    ensures { (f : Kind → Functions) (limits : PlainLimits) (given : List PlainTask) (lines : List PlainLine)
-        → IsExact f limits given lines }
+    ensures { (f : Kind → Functions) (limits : PlainLimits) (opened : State) (lines : List PlainLine)
+        → IsExact f limits opened lines }
+{}
+
+/// A law: too many tasks are known exactly where those from before a script and its own have too many different names. The
+/// line that is told is the first with which they have, and 0 where those from before have. Where all names are different
+/// they are as many as the tasks.
+pub fn known_tasks_are_counted_by_name()
+    ensures told { (most : ℕ) (opened : State) (lines : List PlainLine) → IsFullExact most opened lines }
+    ensures different { (names : List (List ℕ)) → IsDistinct bytes_eq names → count_names names ≡ length names }
+{}
+
+/// A law: a name is that of the task that was known before the script, where one has it, and else that of the script's.
+pub fn earlier_tasks_stay_known()
+    ensures earlier { (opened : State) (lines : List PlainLine) (name : List ℕ) (task : PlainTask)
+        → task_named opened.tasks name ≡ Some task → task_named (opening_of opened lines).tasks name ≡ Some task }
+    ensures own { (opened : State) (lines : List PlainLine) (name : List ℕ)
+        → task_named opened.tasks name ≡ None
+        → task_named (opening_of opened lines).tasks name ≡ task_named (tasks_of lines) name }
 {}
 
 /// A law: a line's report counts for the limits exactly where it is judged: that of a measurement of a known task with
@@ -175,21 +196,33 @@ pub fn lines_offer_what_is_judged()
 /// A law: each line of a script prints between what the lines before and behind it print, as the line of its number
 /// counted from 1, and a refusal names that number.
 pub fn lines_print_by_their_number()
-    ensures { (f : Kind → Functions) (given : List PlainTask) (before : List PlainLine) (line : PlainLine)
-        (behind : List PlainLine) → PrintsByItsNumber f given before line behind }
+    ensures { (f : Kind → Functions) (opened : State) (before : List PlainLine) (line : PlainLine)
+        (behind : List PlainLine) → PrintsByItsNumber f opened before line behind }
+{}
+
+/// A law: lines print what the first of them print, and then what the others do, which begin in the state behind these
+/// and are numbered on.
+pub fn lines_follow_one_another()
+    ensures printed { (f : Kind → Functions) (state : State) (number : ℕ) (first rest : List PlainLine)
+        → let after = state_after f state number first in
+        printed_from f state number (first ++ rest)
+        ≡ printed_from f state number first ++ printed_from f after (number + length first) rest }
+    ensures state { (f : Kind → Functions) (state : State) (number : ℕ) (first rest : List PlainLine)
+        → let after = state_after f state number first in
+        state_after f state number (first ++ rest) ≡ state_after f after (number + length first) rest }
 {}
 
 /// A law: what is told before a line is what the segments print that ended before it. Not a line more is told, and none
 /// less.
 pub fn whole_segments_are_told()
-    ensures { (f : Kind → Functions) (given : List PlainTask) (lines : List PlainLine) (number : ℕ)
-        → TellsWholeSegments f given lines number (text_before f given lines number) }
+    ensures { (f : Kind → Functions) (opened : State) (lines : List PlainLine) (number : ℕ)
+        → TellsWholeSegments f opened lines number (text_before f opened lines number) }
 {}
 
 /// A law: what the whole segments before a line print is a front of what the script prints.
 pub fn segments_are_a_front()
-    ensures { (f : Kind → Functions) (given : List PlainTask) (lines : List PlainLine) (number : ℕ)
-        → (n : ℕ) × (text_before f given lines number ≡ take n (model_text f given lines)) }
+    ensures { (f : Kind → Functions) (opened : State) (lines : List PlainLine) (number : ℕ)
+        → (n : ℕ) × (text_before f opened lines number ≡ take n (model_text f opened lines)) }
 {}
 
 /// A law: whole segments are a front of the lines. They end with the last line that ends a segment.

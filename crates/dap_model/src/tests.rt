@@ -13,9 +13,9 @@ ghost use Rattle.dap_tasks.specs.Task.{PlainTask};
 ghost use Rattle.dap_tasks.specs.Trial.{trial_of};
 ghost use Rattle.dap_tasks.specs.declared.cause.Cause.TheVariants.{Early as EarlyCause, Expired as ExpiredCause, Form as FormCause, Task as TaskCause};
 ghost use Rattle.dap_script.specs.declared.line.Line.TheVariants.{Blank, Collect, Measure, Now, Restart, Task, Upload};
-ghost use Rattle.dap_model.specs.Limits.{bytes_in, limit_passed, whole_segments};
-ghost use Rattle.dap_model.specs.Run.{tasks_of};
-ghost use Rattle.dap_model.specs.State.{Batch, earliest, is_closed, opening, sharing};
+ghost use Rattle.dap_model.specs.Limits.{bytes_in, count_names, full_line_of, limit_passed, whole_segments};
+ghost use Rattle.dap_model.specs.Run.{opening_of, state_after, tasks_of};
+ghost use Rattle.dap_model.specs.State.{Batch, State, earliest, is_closed, opening, sharing};
 ghost use Rattle.dap_model.specs.Step.{name_in, offered, raised, refused, step};
 
 use super::*;
@@ -209,6 +209,27 @@ fn limits()
     ensures reports { (r : Report) → limit_passed (record { reports = 1; bytes = 0 }) (r ∷ r ∷ []) ≡ Some 2 }
 {}
 
+/// Tasks are counted by their names, each once.
+fn known_names()
+    ensures twice { count_names (codes "v" ∷ codes "w" ∷ codes "v" ∷ []) ≡ 2 }
+    ensures none { count_names [] ≡ 0 }
+    ensures before { (k : Kind) → let tasks = trial_of (codes "v") k 1 1 None ∷ trial_of (codes "w") k 1 1 None ∷ [] in
+        full_line_of 1 (opening tasks) [] ≡ Some 0 }
+    ensures again { (k : Kind) → let known = opening (trial_of (codes "v") k 1 1 None ∷ []) in
+        full_line_of 1 known (Task (codes "v") k 1 1 None ∷ Task (codes "w") k 1 1 None ∷ []) ≡ Some 2 }
+    ensures few { (k : Kind) → let known = opening (trial_of (codes "v") k 1 1 None ∷ []) in
+        full_line_of 2 known (Task (codes "v") k 1 1 None ∷ Task (codes "w") k 1 1 None ∷ []) ≡ None }
+{}
+
+/// A script begins in the state before it, with its own tasks behind those that were known.
+fn opened_states()
+    ensures tasks { (s : State) (t : PlainTask) (name : List ℕ) (kind : Kind) → let first = record s { tasks = t ∷ [] } in
+        opening_of first (Task name kind 3 3600 None ∷ [])
+        ≡ record first { tasks = t ∷ trial_of name kind 3 3600 None ∷ [] } }
+    ensures moment { (f : Kind → Functions) → let first = record (opening []) { moment = Some 7 } in
+        state_after f (opening_of first (Now 5 ∷ [])) 1 (Now 5 ∷ []) ≡ first }
+{}
+
 /// The trial task of a task line, and none of another; and the bytes of reports.
 fn tasks_and_bytes()
     ensures tasks { (name : List ℕ) (kind : Kind)
@@ -239,6 +260,8 @@ fn the_definitions_have_these_rows(_rt: HostRuntime) -> Result<(), Fail> {
     expired_tasks();
     buckets();
     limits();
+    known_names();
+    opened_states();
     tasks_and_bytes();
     segments();
     Ok(())

@@ -13,7 +13,7 @@ use Rattle.dap_script.specs.Script.{is_among}
 use Rattle.dap_script.specs.declared.line.Line.{Line}
 use Rattle.dap_model.specs.Limits.{Passed, limit_passed, passed_after, reports_offered}
 use Rattle.dap_program.specs.Headline.{run_limits}
-use Rattle.dap_program.specs.Lines.{names_of}
+use Rattle.dap_model.specs.State.{names_of}
 
 -- ---- names
 

@@ -1,12 +1,18 @@
 -- Why lines of a script are not run.
-use Rattle.std.proofs.Common.{◌≡◌, ℕ, ◌+◌, ◌<◌, ◌≤◌, List, [], ◌∷◌, length, take, Bool, true, false, nat_lt, if◌then◌else◌, Some, None, Result, Ok, Err, refl, ap, subst, ◌∙◌, suc, zero, arith, length-append}
+use Rattle.std.proofs.Common.{◌≡◌, ℕ, ◌+◌, ◌<◌, List, [], ◌∷◌, ◌++◌, length, Bool, true, false, nat_lt, if◌then◌else◌, Option, Some, None, Result, Ok, Err, refl, sym, ap, subst, ◌∙◌, arith, append-nil, append_assoc, length-append}
 use Rattle.std.proofs.lemmas.Bool.Decides.{nat_tests}
+use Rattle.std.proofs.lemmas.List.{length-map}
+use Rattle.std.specs.List.{IsDistinct}
+use Rattle.std.specs.Str.{bytes_eq}
 use Rattle.dap_bytes.specs.declared.limits.TheConstants.{LONGEST_SCRIPT}
 use Rattle.dap_tasks.specs.Task.{PlainTask}
 use Rattle.dap_script.specs.OptionLaws.{if_some, map_or_cases}
 use Rattle.dap_script.specs.Script.{is_longer, script_beside, task_name, task_names}
 use Rattle.dap_script.specs.declared.line.Line.{Line}
-use Rattle.dap_program.specs.Lines.{IsFull, full_from, full_line_of, later_line_of, lines_run, names_of, with_few_tasks, with_lines}
+use Rattle.dap_model.proofs.NameCountLaws.{count-distinct, distinct-front}
+use Rattle.dap_model.specs.Limits.{count_names, full_from, full_line_of}
+use Rattle.dap_model.specs.State.{names_of, opening}
+use Rattle.dap_program.specs.Lines.{later_line_of, lines_run, with_few_tasks, with_lines}
 use Rattle.dap_program.specs.declared.lines.TheConstants.{MAX_LINES, MAX_TASKS}
 use Rattle.dap_program.specs.declared.status.Status.{Status}
 use Rattle.dap_program.specs.declared.status.Status.TheVariants.{ScriptRefused, NotYet, Limit}
@@ -23,14 +29,14 @@ pub record Stops (given : List PlainTask) (script : List ℕ) (status : Status) 
   pub lines : is_longer script MAX_LINES ≡ true → status ≡ Limit (MAX_LINES + 1) 4 → P
   pub refused : (n : ℕ) → script_beside (names_of given) script ≡ Err n → status ≡ ScriptRefused n → P
   pub later : (lines : List Line) (n : ℕ) → script_beside (names_of given) script ≡ Ok lines → later_line_of lines ≡ Some n → status ≡ NotYet n → P
-  pub full : (lines : List Line) (n : ℕ) → script_beside (names_of given) script ≡ Ok lines → full_line_of given lines ≡ Some n → status ≡ Limit n 1 → P
+  pub full : (lines : List Line) (n : ℕ) → script_beside (names_of given) script ≡ Ok lines → full_line_of MAX_TASKS (opening given) lines ≡ Some n → status ≡ Limit n 1 → P
 
 stopped_lines : {P : Type 0} (given : List PlainTask) (script : List ℕ) (status : Status) (read : Result (List Line) ℕ) → script_beside (names_of given) script ≡ read
     → with_lines given read ≡ Err status → Stops given script status P → P
 stopped_lines given script status (Err n) e h stops = stops.refused n e (cc h)
 stopped_lines given script status (Ok lines) e h stops =
     map_or_cases (λ n. Err (NotYet n)) (later_line_of lines) (with_few_tasks given lines) (Err status) h
-    (λ none k. map_or_cases (λ n. Err (Limit n 1)) (full_line_of given lines) (Ok lines) (Err status) k (λ few same. cc same) (λ n some same. stops.full lines n e some (cc same)))
+    (λ none k. map_or_cases (λ n. Err (Limit n 1)) (full_line_of MAX_TASKS (opening given) lines) (Ok lines) (Err status) k (λ few same. cc same) (λ n some same. stops.full lines n e some (cc same)))
     (λ n some same. stops.later lines n e some (cc same))
 
 pub stopped : {P : Type 0} (given : List PlainTask) (script : List ℕ) (status : Status) → lines_run given script ≡ Err status → Stops given script status P → P
@@ -44,7 +50,7 @@ gone_lines : (given : List PlainTask) (script : List ℕ) (lines : List Line) (r
 gone_lines given script lines (Err n) e h = cc h
 gone_lines given script lines (Ok read) e h =
     map_or_cases (λ n. Err (NotYet n)) (later_line_of read) (with_few_tasks given read) (Ok lines) h
-    (λ none k. map_or_cases (λ n. Err (Limit n 1)) (full_line_of given read) (Ok read) (Ok lines) k (λ few same. let is : read ≡ lines = cc same in e ∙ ap Ok is) (λ n some same. cc same))
+    (λ none k. map_or_cases (λ n. Err (Limit n 1)) (full_line_of MAX_TASKS (opening given) read) (Ok read) (Ok lines) k (λ few same. let is : read ≡ lines = cc same in e ∙ ap Ok is) (λ n some same. cc same))
     (λ n some same. cc same)
 
 -- lines that are run are those that are read
@@ -56,53 +62,25 @@ lines_read given script lines h =
 
 -- ---- too many tasks
 
--- so many lines on, too many tasks are known, and not before
-record FullAt (known n : ℕ) (lines : List Line) (k : ℕ) : Type 0 where
-  at : ℕ
-  number : k ≡ n + at
-  within : at ≤ length lines
-  full : MAX_TASKS < known + length (task_names (take at lines))
-  first : (j : ℕ) → j < at → known + length (task_names (take j lines)) ≤ MAX_TASKS
+-- the same with the number of the tasks that are known with line n
+abbrev pub full_counted : ℕ → ℕ → List Line → Option ℕ
+full_counted known n [] = if nat_lt MAX_TASKS known then Some n else None
+full_counted known n (l ∷ lines) = if nat_lt MAX_TASKS known then Some n else full_counted (known + length (task_name l)) (n + 1) lines
 
-many : (known : ℕ) → nat_lt MAX_TASKS known ≡ true → MAX_TASKS < known
-many known h = grind (arith, nat_tests)
+-- where all names differ, they are as many as the tasks
+full-counted : (names : List (List ℕ)) (n : ℕ) (lines : List Line) → IsDistinct bytes_eq (names ++ task_names lines)
+    → full_counted (length names) n lines ≡ full_from MAX_TASKS names n lines
+full-counted names n [] d =
+    ap (λ (k : ℕ). if nat_lt MAX_TASKS k then Some n else None) (sym (count-distinct names (subst (IsDistinct bytes_eq) (append-nil names) d)))
+full-counted names n (l ∷ lines) d =
+    let later : IsDistinct bytes_eq ((names ++ task_name l) ++ task_names lines) =
+    subst (IsDistinct bytes_eq) (sym (append_assoc names (task_name l) (task_names lines))) d in
+    ap (λ (k : ℕ). if nat_lt MAX_TASKS k then Some n else full_counted (length names + length (task_name l)) (n + 1) lines)
+    (sym (count-distinct names (distinct-front names (task_names (l ∷ lines)) d)))
+    ∙ ap (λ (o : Option ℕ). if nat_lt MAX_TASKS (count_names names) then Some n else o)
+    (ap (λ (k : ℕ). full_counted k (n + 1) lines) (sym (length-append names (task_name l))) ∙ full-counted (names ++ task_name l) (n + 1) lines later)
 
-few : (known : ℕ) → nat_lt MAX_TASKS known ≡ false → known ≤ MAX_TASKS
-few known h = grind (arith, nat_tests)
-
-full_here : (known n : ℕ) (lines : List Line) (k : ℕ) → nat_lt MAX_TASKS known ≡ true → n ≡ k → FullAt known n lines k
-full_here known n lines k b e = record { at = 0; number = omega arith; within = omega arith; full = omega (arith, many known b); first = λ j lt. absurd (omega arith) }
-
-full_later : (known n : ℕ) (l : Line) (lines : List Line) (k : ℕ) → nat_lt MAX_TASKS known ≡ false → FullAt (known + length (task_name l)) (n + 1) lines k → FullAt known n (l ∷ lines) k
-full_later known n l lines k b r = record {
-  at = suc r.at;
-  number = omega (arith, r.number);
-  within = omega (arith, r.within);
-  full = omega (arith, r.full, length-append (task_name l) (task_names (take r.at lines)));
-  first = λ j lt. earlier j lt;
-}
-  where
-    earlier : (j : ℕ) → j < suc r.at → known + length (task_names (take j (l ∷ lines))) ≤ MAX_TASKS
-    earlier zero lt = omega (arith, few known b)
-    earlier (suc j) lt = omega (arith, r.first j (omega arith), length-append (task_name l) (task_names (take j lines)))
-
-full_step : (b : Bool) (known n : ℕ) (l : Line) (lines : List Line) (k : ℕ) → nat_lt MAX_TASKS known ≡ b
-    → (if b then Some n else full_from (known + length (task_name l)) (n + 1) lines) ≡ Some k
-    → (full_from (known + length (task_name l)) (n + 1) lines ≡ Some k → FullAt (known + length (task_name l)) (n + 1) lines k) → FullAt known n (l ∷ lines) k
-full_step true known n l lines k b e go = full_here known n (l ∷ lines) k b (cc e)
-full_step false known n l lines k b e go = full_later known n l lines k b (go e)
-
-full_at : (known n : ℕ) (lines : List Line) (k : ℕ) → full_from known n lines ≡ Some k → FullAt known n lines k
-full_at known n [] k h = if_some (nat_lt MAX_TASKS known) (Some n) None k h (λ b e. full_here known n [] k b (cc e)) (λ e. cc e)
-full_at known n (l ∷ lines) k h =
-    full_step (nat_lt MAX_TASKS known) known n l lines k refl h (full_at (known + length (task_name l)) (n + 1) lines k)
-
-pub full_line_is : (given : List PlainTask) (lines : List Line) (n : ℕ) → full_line_of given lines ≡ Some n → IsFull given lines n
-full_line_is given lines n h =
-    let r = full_at (length given) 0 lines n h in
-    let same : r.at ≡ n = omega (arith, r.number) in
-    record {
-      within = omega (arith, r.within);
-      full = subst (λ i. MAX_TASKS < length given + length (task_names (take i lines))) same r.full;
-      first = λ k lt. r.first k (omega arith);
-    }
+pub full_line-counted : (given : List PlainTask) (lines : List Line) → IsDistinct bytes_eq (names_of given ++ task_names lines)
+    → full_counted (length given) 0 lines ≡ full_line_of MAX_TASKS (opening given) lines
+full_line-counted given lines d =
+    ap (λ (k : ℕ). full_counted k 0 lines) (sym (length-map given (λ (task : PlainTask). task.name))) ∙ full-counted (names_of given) 0 lines d

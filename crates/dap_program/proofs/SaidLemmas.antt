@@ -5,13 +5,15 @@ use Rattle.dap_tasks.specs.File.{Refusal, tasks_of}
 use Rattle.dap_tasks.specs.Task.{PlainTask}
 use Rattle.dap_script.specs.declared.line.Line.{Line}
 use Rattle.dap_model.specs.Limits.{Passed, passed_in}
-use Rattle.dap_program.proofs.LineLemmas.{full_line_is, lines_read, stopped}
+use Rattle.dap_model.proofs.NameCountLaws.{full-exact}
+use Rattle.dap_model.specs.State.{opening}
+use Rattle.dap_program.proofs.LineLemmas.{lines_read, stopped}
 use Rattle.dap_program.specs.Headline.{IsNotYet, IsPassed, IsScriptRefused, IsStop, Outcome, check_outcome, given_tasks, lines_outcome, outcome_of, run_limits, run_outcome, script_outcome, status_of}
 use Rattle.dap_program.specs.Lines.{lines_run}
 use Rattle.dap_program.specs.Runs.{Ends, status_after}
 use Rattle.dap_program.specs.Words.{PlainCommand, command_of}
 use Rattle.dap_program.specs.Work.{Work, Scripted, Checked, Loaded, Helped, Versioned, IfTold, work_of}
-use Rattle.dap_program.specs.declared.lines.TheConstants.{MAX_LINES}
+use Rattle.dap_program.specs.declared.lines.TheConstants.{MAX_LINES, MAX_TASKS}
 use Rattle.dap_program.specs.declared.status.Status.{Status}
 use Rattle.dap_program.specs.declared.status.Status.TheVariants.{Done, TasksRefused, ScriptRefused, NotYet, ReadFault, WriteFault, Limit, NoMemory}
 
@@ -23,10 +25,10 @@ record Ways (file : Option (List ℕ)) (script : List ℕ) (status : Status) (P 
   lines : (given : List PlainTask) → given_tasks file ≡ Ok given → lines_run given script ≡ Err status → P
   done : status ≡ Done → P
   passed : (given : List PlainTask) (lines : List Line) (p : Passed) → given_tasks file ≡ Ok given → lines_run given script ≡ Ok lines
-      → passed_in functions_of_kind run_limits given lines ≡ Some p → status ≡ Limit p.line p.limit → P
+      → passed_in functions_of_kind run_limits (opening given) lines ≡ Some p → status ≡ Limit p.line p.limit → P
 
 by_passed : {P : Type 0} (file : Option (List ℕ)) (script : List ℕ) (status : Status) (given : List PlainTask) (lines : List Line) (passed : Option Passed)
-    → given_tasks file ≡ Ok given → lines_run given script ≡ Ok lines → passed_in functions_of_kind run_limits given lines ≡ passed
+    → given_tasks file ≡ Ok given → lines_run given script ≡ Ok lines → passed_in functions_of_kind run_limits (opening given) lines ≡ passed
     → (run_outcome given lines passed).status ≡ status → Ways file script status P → P
 by_passed file script status given lines None t l p h ways = ways.done (sym h)
 by_passed file script status given lines (Some passed) t l p h ways = ways.passed given lines passed t l p (sym h)
@@ -35,7 +37,7 @@ by_lines : {P : Type 0} (file : Option (List ℕ)) (script : List ℕ) (status :
     → given_tasks file ≡ Ok given → lines_run given script ≡ planned → (lines_outcome given planned).status ≡ status → Ways file script status P → P
 by_lines file script status given (Err s) t l h ways = ways.lines given t (l ∙ ap Err h)
 by_lines file script status given (Ok lines) t l h ways =
-    by_passed file script status given lines (passed_in functions_of_kind run_limits given lines) t l refl h ways
+    by_passed file script status given lines (passed_in functions_of_kind run_limits (opening given) lines) t l refl h ways
 
 by_tasks : {P : Type 0} (file : Option (List ℕ)) (script : List ℕ) (status : Status) (read : Result (List PlainTask) Refusal)
     → given_tasks file ≡ read → (script_outcome read script).status ≡ status → Ways file script status P → P
@@ -109,7 +111,7 @@ limit_said (Scripted file script) line limit h = script_ways file script (Limit 
     full = λ lines n r s e. (
         let a : limit ≡ 1 = cc e in
         let b : n ≡ line = cc e in
-        inr (inr (record { given = given; lines = lines; tasks_read = t; script_read = r }, inl (a, full_line_is given lines line (s ∙ ap Some b)))));
+        inr (inr (record { given = given; lines = lines; tasks_read = t; script_read = r }, inl (a, (full-exact MAX_TASKS (opening given) lines).first line (s ∙ ap Some b)))));
   });
   done = λ e. cc e;
   passed = λ given lines p t l s e. (

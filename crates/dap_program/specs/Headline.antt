@@ -11,14 +11,16 @@ use Rattle.dap_script.specs.Spelling.{ended}
 use Rattle.dap_script.specs.declared.line.Line.{Line}
 use Rattle.dap_script.specs.declared.line.Line.TheVariants.{Task}
 use Rattle.dap_model.specs.Limits.{Passed, passed_in, text_before}
+use Rattle.dap_model.specs.Passes.{IsFull}
 use Rattle.dap_model.specs.Run.{model_text}
+use Rattle.dap_model.specs.State.{names_of, opening}
 use Rattle.dap_model.specs.declared.limits.Limits.{Limits}
 use Rattle.load_maker.specs.Load.{load_text}
-use Rattle.dap_program.specs.Lines.{IsFull, later_line_of, lines_run, names_of}
+use Rattle.dap_program.specs.Lines.{later_line_of, lines_run}
 use Rattle.dap_program.specs.Transfer.{AppendsPart}
 use Rattle.dap_program.specs.Work.{Work, Scripted, Checked, Loaded, Helped, Versioned}
 use Rattle.dap_program.specs.declared.help.TheConstants.{HELP, VERSION}
-use Rattle.dap_program.specs.declared.lines.TheConstants.{MAX_LINES}
+use Rattle.dap_program.specs.declared.lines.TheConstants.{MAX_LINES, MAX_TASKS}
 use Rattle.dap_program.specs.declared.status.Status.{Status}
 use Rattle.dap_program.specs.declared.status.Status.TheVariants.{Done, Usage, TasksRefused, ScriptRefused, NotYet, ReadFault, WriteFault, Limit, NoMemory}
 
@@ -33,14 +35,17 @@ run_limits = record { reports = 50000; bytes = 268435456 }
 
 -- ---- a script
 
--- The model's text, or, where a limit of the run is passed, the text of the segments before the line with which it is.
+-- The model's text from the state in which the given tasks are known and nothing else is; or, where a limit of the run is passed, the text of the segments before the line with which it is.
 abbrev pub run_outcome : List PlainTask → List Line → Option Passed → Outcome
-run_outcome given lines None = record { status = Done; text = model_text functions_of_kind given lines }
-run_outcome given lines (Some passed) = record { status = Limit passed.line passed.limit; text = text_before functions_of_kind given lines passed.line }
+run_outcome given lines None = record { status = Done; text = model_text functions_of_kind (opening given) lines }
+run_outcome given lines (Some passed) = record {
+  status = Limit passed.line passed.limit;
+  text = text_before functions_of_kind (opening given) lines passed.line;
+}
 
 -- the outcome of lines that are run, or of a script of which none are
 abbrev pub lines_outcome : List PlainTask → Result (List Line) Status → Outcome
-lines_outcome given (Ok lines) = run_outcome given lines (passed_in functions_of_kind run_limits given lines)
+lines_outcome given (Ok lines) = run_outcome given lines (passed_in functions_of_kind run_limits (opening given) lines)
 lines_outcome given (Err status) = record { status = status; text = [] }
 
 -- the outcome of a script beside the tasks of a file, or of a file that is refused
@@ -128,12 +133,12 @@ HasTooManyLines script line limit = (limit ≡ 4) × (line ≡ MAX_LINES + 1) ×
 
 -- Limit 1: too many tasks are known with this line, and not before.
 abbrev pub HasTooManyTasks : (file : Option (List ℕ)) → (script : List ℕ) → Reads file script → ℕ → ℕ → Type 0
-HasTooManyTasks file script r line limit = (limit ≡ 1) × IsFull r.given r.lines line
+HasTooManyTasks file script r line limit = (limit ≡ 1) × IsFull MAX_TASKS (opening r.given) r.lines line
 
 -- Limits 2 and 3: too many reports or too many bytes of reports are offered with this line, and not before.
 abbrev pub OffersTooMuch : (file : Option (List ℕ)) → (script : List ℕ) → Reads file script → ℕ → ℕ → Type 0
 OffersTooMuch file script r line limit =
-    passed_in functions_of_kind run_limits r.given r.lines ≡ Some (record { line = line; limit = limit })
+    passed_in functions_of_kind run_limits (opening r.given) r.lines ≡ Some (record { line = line; limit = limit })
 
 -- the limit of this number is passed with this line
 abbrev pub IsPassed : Work → ℕ → ℕ → Type 0

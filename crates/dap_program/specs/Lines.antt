@@ -1,18 +1,16 @@
 -- The lines of a script that are run, and why none are.
-use Rattle.std.specs.Prelude.{ℕ, ◌+◌, ◌<◌, ◌≤◌, List, [], ◌∷◌, map, length, take, nat_lt, Bool, true, false, if◌then◌else◌, Option, Some, None, Result, Ok, Err}
+use Rattle.std.specs.Prelude.{ℕ, ◌+◌, List, [], ◌∷◌, length, nat_lt, Bool, true, false, if◌then◌else◌, Option, Some, None, Result, Ok, Err}
 use Rattle.std.specs.Option.{option_map_or}
 use Rattle.dap_bytes.specs.declared.limits.TheConstants.{LONGEST_SCRIPT}
 use Rattle.dap_tasks.specs.Task.{PlainTask}
-use Rattle.dap_script.specs.Script.{is_longer, script_beside, task_name, task_names}
+use Rattle.dap_script.specs.Script.{is_longer, script_beside}
 use Rattle.dap_script.specs.declared.line.Line.{Line}
 use Rattle.dap_script.specs.declared.line.Line.TheVariants as line
+use Rattle.dap_model.specs.Limits.{full_line_of}
+use Rattle.dap_model.specs.State.{names_of, opening}
 use Rattle.dap_program.specs.declared.lines.TheConstants.{MAX_LINES, MAX_TASKS}
 use Rattle.dap_program.specs.declared.status.Status.{Status}
 use Rattle.dap_program.specs.declared.status.Status.TheVariants.{ScriptRefused, NotYet, Limit}
-
--- the names of tasks
-abbrev pub names_of : List PlainTask → List (List ℕ)
-names_of tasks = map (λ task. task.name) tasks
 
 -- a line of a form that isn't run yet: `restart`
 abbrev pub is_later : Line → Bool
@@ -33,18 +31,10 @@ later_from n (l ∷ lines) = if is_later l then Some n else later_from (n + 1) l
 abbrev pub later_line_of : List Line → Option ℕ
 later_line_of lines = later_from 1 lines
 
--- the first line with which too many tasks are known, where so many are known with line n and these follow it
-abbrev pub full_from : ℕ → ℕ → List Line → Option ℕ
-full_from known n [] = if nat_lt MAX_TASKS known then Some n else None
-full_from known n (l ∷ lines) = if nat_lt MAX_TASKS known then Some n else full_from (known + length (task_name l)) (n + 1) lines
-
--- the first line with which too many tasks are known, counted from 1, or 0 where the given ones are too many
-abbrev pub full_line_of : List PlainTask → List Line → Option ℕ
-full_line_of given lines = full_from (length given) 0 lines
-
--- the lines, if not too many tasks are known
+-- the lines, if not too many tasks are known with them
 abbrev pub with_few_tasks : List PlainTask → List Line → Result (List Line) Status
-with_few_tasks given lines = option_map_or (λ n. Err (Limit n 1)) (full_line_of given lines) (Ok lines)
+with_few_tasks given lines =
+    option_map_or (λ n. Err (Limit n 1)) (full_line_of MAX_TASKS (opening given) lines) (Ok lines)
 
 -- the lines, if each is of a form that is run
 abbrev pub with_forms : List PlainTask → List Line → Result (List Line) Status
@@ -62,11 +52,3 @@ lines_run given script =
     if nat_lt LONGEST_SCRIPT (length script) then Err (Limit 0 5)
     else (if is_longer script MAX_LINES then Err (Limit (MAX_LINES + 1) 4)
     else with_lines given (script_beside (names_of given) script))
-
--- ---- limit 1 in other words
-
--- too many tasks are known with this line, 0 for the given ones alone, and with no line before it
-pub record IsFull (given : List PlainTask) (lines : List Line) (n : ℕ) : Type 0 where
-  pub within : n ≤ length lines
-  pub full : MAX_TASKS < length given + length (task_names (take n lines))
-  pub first : (k : ℕ) → k < n → length given + length (task_names (take k lines)) ≤ MAX_TASKS

@@ -1,8 +1,14 @@
 //! The lines of a script that are run.
 
-ghost use Rattle.std.specs.Prelude.{◌≡◌, ◌≤◌, ◌<◌, ◌^◌, length, IfOk};
+ghost use Rattle.std.specs.Prelude.{◌≡◌, ◌≤◌, ◌<◌, ◌^◌, ◌++◌, length, IfOk};
+ghost use Rattle.std.specs.List.{IsDistinct};
+ghost use Rattle.std.specs.Str.{bytes_eq};
+ghost use Rattle.dap_tasks.specs.Tasks.{AreDistinct};
+ghost use Rattle.dap_script.specs.Script.{task_names};
 ghost use Rattle.dap_script.specs.Spelling.{IsScriptBeside};
-ghost use Rattle.dap_program.specs.Lines.{names_of, is_later, later_line_of, full_line_of};
+ghost use Rattle.dap_model.specs.Limits.{full_line_of};
+ghost use Rattle.dap_model.specs.State.{names_of, opening};
+ghost use Rattle.dap_program.specs.Lines.{is_later, later_line_of};
 ghost use Rattle.dap_program.specs.Runs.{Plans};
 
 use crate::status::Status;
@@ -45,10 +51,12 @@ fn later_line(lines: &[Line]) -> Option<u32>
     None
 }
 
-/// The first line with which too many tasks are known, counted from 1, or 0 where the given ones are too many.
+/// The first line with which too many tasks are known, counted from 1, or 0 where the given ones are too many. Their names
+/// differ, so each task counts.
 fn full_line(given: &[Task], lines: &[Line]) -> Option<u32>
-    requires { length lines.now < 2 ^ 31 }
-    ensures { result ≡ full_line_of given.now lines.now }
+    requires few { length lines.now < 2 ^ 31 }
+    requires names { IsDistinct bytes_eq (names_of given.now ++ task_names lines.now) }
+    ensures { result ≡ full_line_of MAX_TASKS (opening given.now) lines.now }
 {
     let mut known = given.len();
     let mut number: u32 = 0;
@@ -69,7 +77,8 @@ fn full_line(given: &[Task], lines: &[Line]) -> Option<u32>
 
 /// The lines of a script of at most `LONGEST_SCRIPT` bytes, if they are run beside the given tasks.
 pub fn lines_run(alloc: Global, given: &[Task], script: &[u8]) -> Result<Vec<Line>, Status>
-    requires { length script.now ≤ LONGEST_SCRIPT }
+    requires size { length script.now ≤ LONGEST_SCRIPT }
+    requires distinct { AreDistinct given.now }
     ensures lines { Plans result given.now script.now }
     ensures script { IfOk result (λ lines. IsScriptBeside (names_of given.now) lines.items) }
     ensures count { IfOk result (λ lines. length lines.items ≤ length script.now) }

@@ -12,6 +12,7 @@ mod printing;
 mod program;
 mod run;
 mod status;
+mod sums;
 mod tell;
 mod transfer;
 mod words;

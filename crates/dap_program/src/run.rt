@@ -9,7 +9,8 @@ ghost use Rattle.dap_tasks.specs.Tasks.{AreDistinct};
 ghost use Rattle.dap_script.specs.Spelling.{IsScriptBeside};
 ghost use Rattle.dap_model.specs.Limits.{passed_in};
 ghost use Rattle.dap_program.specs.Headline.{IsSilent, IsTasksRefused, outcome_of, given_tasks, lines_outcome, run_limits, run_outcome};
-ghost use Rattle.dap_program.specs.Lines.{lines_run, names_of};
+ghost use Rattle.dap_model.specs.State.{names_of, opening};
+ghost use Rattle.dap_program.specs.Lines.{lines_run};
 ghost use Rattle.dap_program.specs.Runs.{Ends, Gives, IsFileStop, IsRunStop, IsScriptStop, status_after};
 ghost use Rattle.dap_program.specs.Words.{plain_name, Running};
 ghost use Rattle.dap_program.specs.Work.{file_of, file_told, work_of};
@@ -44,7 +45,7 @@ fn run_lines<K: Sink>(
     requires script { IsScriptBeside (names_of given.items) lines.now }
     requires distinct { AreDistinct given.items }
     ensures ends { Ends (status_after result) (K.held out.old) (K.held out.new)
-        (run_outcome given.items lines.now (passed_in functions_of_kind run_limits given.items lines.now)) }
+        (run_outcome given.items lines.now (passed_in functions_of_kind run_limits (opening given.items) lines.now)) }
     ensures only { IfErr result IsRunStop }
     ensures faults { Counts (IsErrOf result Status.WriteFault) (K.faults out.old) (K.faults out.new) }
 {

@@ -3,3 +3,4 @@ pub mod KindLaws
 pub mod Values
 pub mod ValueLaws
 pub mod Counted
+pub mod WholeNumbers

@@ -1,17 +1,20 @@
 //! What each kind measures.
-ghost use Rattle.std.specs.Prelude.{◌≡◌, ◌+◌, ◌<◌, ◌^◌, ℕ, List, [], ◌∷◌, length, Some, true};
+ghost use Rattle.std.specs.Prelude.{◌≡◌, ◌+◌, ◌<◌, ◌^◌, ℕ, List, [], ◌∷◌, length, filter_map, Some, true};
 ghost use Rattle.std.specs.Option.{is_some};
+ghost use Rattle.std.specs.List.{All};
 ghost use Rattle.field64.specs.Element as small;
 ghost use Rattle.field128.specs.Element as wide;
 ghost use Rattle.flp_circuits.specs.Kinds.{bucket, count_shape, histogram_shape, sum_shape};
 ghost use Rattle.circuit_vector.specs.Vector.{vector_shape};
 ghost use Rattle.vdaf_api.specs.Kind.{AreBounds, IsKind};
+ghost use Rattle.vdaf_api.specs.Totals.{total_numbers};
 ghost use Rattle.vdaf_api.specs.declared.kind.Kind.{Kind};
 ghost use Rattle.vdaf_api.specs.declared.answer.Answer.TheVariants as answer;
 ghost use Rattle.vdaf_api.specs.declared.kind.Kind.TheVariants.{Count, Sum, Histogram, Vector};
 ghost use Rattle.prio3_prep.specs.Decided.{AcceptedAreDecided};
 ghost use Rattle.prio3_kinds.specs.Counted.{IsCountedAs};
 ghost use Rattle.prio3_kinds.specs.Kinds.{answer_of, base64, base128, functions_of_kind, is_measurement, one_at};
+ghost use Rattle.prio3_kinds.specs.WholeNumbers.{COUNTS_END, whole_answer};
 
 /// A law: the measurements of a kind are the lists that `is_measurement` says: for a count, a sum and a histogram lists
 /// of one number, for a vector lists of its length.
@@ -52,6 +55,15 @@ pub fn honest_reports_count_themselves()
         (one_at (length bounds + 1) (bucket bounds m)) }
     ensures vector { (len bits : ℕ) (ms : List ℕ) → IsKind (Vector len bits)
         → is_measurement (Vector len bits) ms ≡ true → IsCountedAs (functions_of_kind (Vector len bits)) ms ms }
+{}
+
+/// A law: the answer of the sum of fewer than 2^25 measurements' vectors is that of whole numbers, since no such sum
+/// reaches a modulus: how many are 1, their sum, how many fall into each bucket, or their sum number by number.
+pub fn answers_are_whole_numbers()
+    ensures { (kind : Kind) (measurements : List (List ℕ)) → IsKind kind
+        → All (λ ms. is_measurement kind ms ≡ true) measurements → length measurements < COUNTS_END
+        → let f = functions_of_kind kind in
+        f.answer (total_numbers f.space (filter_map f.encoding measurements)) ≡ whole_answer kind measurements }
 {}
 
 /// A law: of each kind, the halves of a report whose verdict is ok add to an input and a proof that the kind's circuit

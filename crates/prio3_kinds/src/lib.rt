@@ -8,8 +8,9 @@ mod measuring;
 mod prio3;
 
 pub use laws::{
-    accepted_reports_are_decided, answers_are_their_vectors, honest_reports_count_themselves,
-    measurements_are_of_their_kind, measurements_have_their_vectors,
+    accepted_reports_are_decided, answers_are_their_vectors, answers_are_whole_numbers,
+    honest_reports_count_themselves, measurements_are_of_their_kind,
+    measurements_have_their_vectors,
 };
 pub use prio3::Prio3;
 

@@ -2,4 +2,4 @@ use Rattle.dap_model.proofs.Fronts.{tells-segments}
 use Rattle.dap_model.proofs.laws.whole_segments_are_told.Goals as goal
 
 pub returns : goal.returns
-returns c f given lines number = tells-segments f given lines number
+returns c f opened lines number = tells-segments f opened lines number
