@@ -33,8 +33,8 @@ class Task:
 
     def __init__(self, draw, name):
         self.name = name
-        self.form = draw.choice(["count", "sum", "histogram"])
-        self.bits, self.bounds = None, None
+        self.form = draw.choice(["count", "sum", "histogram", "vector"])
+        self.bits, self.bounds, self.length = None, None, None
         if self.form == "count":
             self.words, self.values = "count", [0, 1, 1, 2]
         elif self.form == "sum":
@@ -43,6 +43,13 @@ class Task:
             above = greatest + 1 if self.bits < 64 else greatest
             self.words = f"sum {self.bits}"
             self.values = [0, 1, greatest, greatest, draw.randint(0, greatest), above]
+        elif self.form == "vector":
+            self.length, self.bits = draw.choice([(1, 1), (2, 8), (3, 32), (7, 5), (1, 32), (2, 32), (63, 32), (1024, 1)])
+            greatest = 2 ** self.bits - 1
+            self.words = f"vector {self.length} {self.bits}"
+            whole = [self.numbers(draw, self.length, greatest) for _ in range(4)]
+            self.values = whole + [self.numbers(draw, length, most) for length, most in [
+                (self.length, greatest + 1), (min(1024, self.length + 1), greatest), (max(1, self.length - 1), greatest)]]
         else:
             bounds = sorted(draw.sample(range(200), draw.randint(1, 6)))
             if draw.randrange(12) == 0:
@@ -55,6 +62,11 @@ class Task:
         self.least = draw.choice([1, 1, 2, 3])
         self.precision = draw.choice([1, 7, 100, 3600])
         self.expires = draw.choice([None, None, None, 0, 100, 101, 7000, LATEST])
+
+    @staticmethod
+    def numbers(draw, length, most):
+        """A list of numbers, the greatest of which is there now and then."""
+        return ",".join(str(draw.choice([0, most, draw.randint(0, most)])) for _ in range(length))
 
     def line(self):
         ending = "" if self.expires is None else f" expires {self.expires}"
@@ -74,6 +86,8 @@ class FileWriter:
 
     def fields(self, task):
         fields = {"name": f'"{task.name}"', "kind": f'"{task.form}"'}
+        if task.length is not None:
+            fields["len"] = str(task.length)
         if task.bits is not None:
             fields["bits"] = str(task.bits)
         if task.bounds is not None:
@@ -91,7 +105,8 @@ class FileWriter:
         wrong = {
             "name": ['""', '"A"', '"' + "n" * 33 + '"', "7", '"f0"'],
             "kind": ['"mean"', "1", '"Count"'],
-            "bits": ["0", "65", '"8"', "1.0", "-1"],
+            "len": ["0", "1025", "2047", '"2"', "-1"],
+            "bits": ["0", "33", "65", '"8"', "1.0", "-1"],
             "bounds": ["[]", "[2, 2]", "[3, 1]", "[-1]", '["1"]', str(list(range(1024)))],
             "min": ["0", "1000001", '"1"', "true"],
             "precision": ["0", "1000000001", "1e3"],
@@ -104,7 +119,7 @@ class FileWriter:
         if pick == 0:
             del fields[key]
         elif pick == 1:
-            fields[draw.choice(["bits", "bounds", "zeal", "Name", "expires", "Expires", "aim"])] = "3"
+            fields[draw.choice(["len", "bits", "bounds", "zeal", "Name", "expires", "Expires", "aim"])] = "3"
         elif pick == 2:
             fields[key] = "9223372036854775808"
         else:
@@ -216,6 +231,8 @@ class Writer:
             f"collect {name} 0 0", f"collect {name} 0 65", f"collect {name} 0 01", f"collect {name} 0 1 1",
             "task x count 1 1 expires", f"task x count 1 1 expires {LATEST + 1}", "task x count 1 1 expires 1 2",
             f"task {name} count 1 1", "task A count 1 1", "task x sum 65 1 1", "task x sum 0 1 1",
+            "task x vector 0 1 1 1", "task x vector 1 33 1 1", "task x vector 64 32 1 1", "task x vector 1025 1 1 1",
+            f"measure {name} {'0' * 32} 0 1,,2 {'0' * 32}", f"measure {name} {'0' * 32} 0 {'0,' * 1024}0 {'0' * 32}",
             "task x histogram 2,2 1 1", "task x histogram 1, 1 1", "task x count 0 1", "task x count 1 1000000001",
             f"measure {name} 0 0 0 0", "now 1000000000000000000", "upload", "upload Zg", "upload Zh==",
             "restart", "restart both", "# \u00e9", "\r",
