@@ -58,15 +58,19 @@ pub record AddsReport (f : Kind → Functions) (task : PlainTask) (report : Repo
 -- ---- reports that are offered
 
 -- The report is offered to the task by line k: the plain state changes and something is printed as by the plain step.
-pub record Offers (f : Kind → Functions) (task : PlainTask) (k : ℕ) (report : Report) (old new : Direct) (printed : Option Printed) : Type 0 where
-  pub outcome : (tasks : List PlainTask) → (let o : Outcome = (state_of tasks new, option_to_list printed) in o) ≡ offered (state_of tasks old) k task report
+pub record Offers (f : Kind → Functions) (task : PlainTask) (k : ℕ) (report : Report)
+    (old new : Direct) (printed : Option Printed) : Type 0 where
+  pub outcome : (tasks : List PlainTask)
+      → (let o : Outcome = (state_of tasks new, option_to_list printed) in o) ≡ offered (state_of tasks old) k task report
   pub sums : KeepsSums f task old new
   pub accepted : length new.accepted ≤ length old.accepted + 1
   pub counted : new.offered ≡ old.offered
 
 -- The bytes are offered to the task by line k, and the report that they spell, if they spell one, is counted.
-pub record Uploads (f : Kind → Functions) (task : PlainTask) (k : ℕ) (bytes : List ℕ) (old new : Direct) (printed : Option Printed) : Type 0 where
-  pub outcome : (tasks : List PlainTask) → (let o : Outcome = (state_of tasks new, option_to_list printed) in o) ≡ upload_to (state_of tasks old) k bytes task
+pub record Uploads (f : Kind → Functions) (task : PlainTask) (k : ℕ) (bytes : List ℕ)
+    (old new : Direct) (printed : Option Printed) : Type 0 where
+  pub outcome : (tasks : List PlainTask)
+      → (let o : Outcome = (state_of tasks new, option_to_list printed) in o) ≡ upload_to (state_of tasks old) k bytes task
   pub sums : KeepsSums f task old new
   pub at : IsAt (k + 1) new
   pub counted : new.offered ≡ with_report (report_in bytes) old.offered
@@ -75,8 +79,10 @@ pub record Uploads (f : Kind → Functions) (task : PlainTask) (k : ℕ) (bytes 
 
 -- The task's batch is collected by line k: the plain state changes and something is printed as by the plain step, and the
 -- reports and their sums stay.
-pub record Collects (f : Kind → Functions) (task : PlainTask) (k : ℕ) (span : Span) (old new : Direct) (printed : Printed) : Type 0 where
-  pub outcome : (tasks : List PlainTask) → (let o : Outcome = (state_of tasks new, printed ∷ []) in o) ≡ collect_of f (state_of tasks old) k span task
+pub record Collects (f : Kind → Functions) (task : PlainTask) (k : ℕ) (span : Span)
+    (old new : Direct) (printed : Printed) : Type 0 where
+  pub outcome : (tasks : List PlainTask)
+      → (let o : Outcome = (state_of tasks new, printed ∷ []) in o) ≡ collect_of f (state_of tasks old) k span task
   pub accepted : new.accepted ≡ old.accepted
   pub sums : new.sums ≡ old.sums
   pub offered : new.offered ≡ old.offered
@@ -91,7 +97,8 @@ pub record MayRun (f : Kind → Functions) (tasks : List PlainTask) (k : ℕ) (d
 
 -- Line k was run: the plain state changed and something is printed as by the plain step, each bucket has its sums, and the
 -- report that the line offers, if it offers one, is counted.
-pub record Runs (f : Kind → Functions) (tasks : List PlainTask) (k : ℕ) (l : Line) (old new : Direct) (printed : Option Printed) : Type 0 where
+pub record Runs (f : Kind → Functions) (tasks : List PlainTask) (k : ℕ) (l : Line)
+    (old new : Direct) (printed : Option Printed) : Type 0 where
   pub outcome : (let o : Outcome = (state_of tasks new, option_to_list printed) in o) ≡ step f (state_of tasks old) k l
   pub at : IsAt (k + 1) new
   pub sums : AreSummed f tasks new

@@ -1,4 +1,3 @@
-pub mod Alike
 pub mod Answered
 pub mod Direct
 pub mod Earlier

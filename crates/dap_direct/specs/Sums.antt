@@ -36,7 +36,9 @@ AreSumsOf g contents rejected (Some s) = AreSums g contents rejected s
 -- each bucket of the task has its sums
 abbrev pub IsSummed : (Kind → Functions) → PlainTask → List Report → List Sums → Type 0
 IsSummed f task accepted sums =
-    (start : ℕ) → AreSumsOf (f task.kind) (contents_in f task start accepted) (rejected_in f task start accepted) (find (is_of task.name start) sums)
+    (start : ℕ)
+    → AreSumsOf (f task.kind) (contents_in f task start accepted) (rejected_in f task start accepted)
+    (find (is_of task.name start) sums)
 
 -- each is a sum of out shares
 abbrev pub AreOuts : Functions → Sums → Type 0
@@ -93,7 +95,8 @@ pub record AddsSums (g : Functions) (other old new : Sums) : Type 0 where
 abbrev pub JoinsBucket : (Kind → Functions) → PlainTask → ℕ → List Report → Sums → Sums → Type 0
 JoinsBucket f task start accepted old new =
     (contents : List (List ℕ)) (rejected : ℕ) → AreSums (f task.kind) contents rejected old
-    → AreSums (f task.kind) (contents ++ contents_in f task start accepted) (rejected + rejected_in f task start accepted) new
+    → AreSums (f task.kind) (contents ++ contents_in f task start accepted)
+    (rejected + rejected_in f task start accepted) new
 
 -- sums of no report stand behind the others, among which the bucket has none
 pub record AddsNone (g : Functions) (name : List ℕ) (start : ℕ) (old new : List Sums) : Type 0 where

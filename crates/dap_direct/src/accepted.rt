@@ -2,10 +2,8 @@
 
 ghost use Rattle.std.specs.Prelude.{◌≡◌, [], ◌∷◌, ◌++◌, IsTrue, IfSome, OnOk};
 ghost use Rattle.std.specs.Option.{option_map};
-ghost use Rattle.std.specs.Str.{bytes_eq};
 ghost use Rattle.dap_messages.specs.Messages.{report};
 ghost use Rattle.dap_model.specs.State.{has_key, known_in};
-ghost use Rattle.dap_direct.specs.Alike.{are_alike};
 
 use dap_bytes::{Id, Name};
 use dap_messages::Report;
@@ -35,27 +33,6 @@ fn has_key(report: &Report, task: &Name, id: &Id) -> bool
     ensures { result ≡ has_key task.now id.now report.now }
 {
     report.id == *id && report.name == *task
-}
-
-/// Whether two reports have the same fields.
-fn are_alike(known: &Report, new: &Report) -> bool
-    ensures { result ≡ are_alike known.now new.now }
-{
-    known.name == new.name
-        && known.id == new.id
-        && known.time == new.time
-        && known.public == new.public
-        && known.leader == new.leader
-        && known.helper == new.helper
-}
-
-/// Whether two reports have the same bytes, which is whether they have the same fields. It takes no memory.
-pub fn is_same(known: &Report, new: &Report) -> bool
-    requires known { IsTrue (report.allowed known.now) }
-    requires new { IsTrue (report.allowed new.now) }
-    ensures { result ≡ bytes_eq (report.spell known.now) (report.spell new.now) }
-{
-    are_alike(known, new)
 }
 
 impl Accepted {

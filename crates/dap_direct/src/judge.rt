@@ -7,7 +7,6 @@ ghost use Rattle.dap_messages.specs.Messages.{report};
 ghost use Rattle.dap_tasks.specs.Judged.{is_known_as, judged};
 ghost use Rattle.dap_model.specs.State.{is_closed, known_in};
 
-use crate::accepted::is_same;
 use crate::batch::Batch;
 use crate::state::Direct;
 use dap_batch::batch_of;
@@ -21,7 +20,7 @@ fn is_again(known: Option<&Report>, new: &Report) -> bool
     ensures { result ≡ is_known_as (option_map (λ r. report.spell r.now) known.entry) (report.spell new.now) }
 {
     match known {
-        Some(known) => is_same(known, new),
+        Some(known) => known.is_same(new),
         None => false,
     }
 }
@@ -46,7 +45,8 @@ impl Direct {
     pub fn judge(&self, task: &Task, new: &Report) -> Judged
         requires { IsTrue (report.allowed new.now) }
         ensures { result ≡ judged (known_in self.now.accepted new.now.name new.now.id) self.now.moment task.now.expires
-            (is_closed self.now.collected.items new.now.name task.now.precision (batch_start new.now.time task.now.precision))
+            (is_closed self.now.collected.items new.now.name task.now.precision
+            (batch_start new.now.time task.now.precision))
             (report.spell new.now) new.now.time }
     {
         let known = self.accepted.find(&new.name, &new.id);

@@ -27,6 +27,13 @@ count_new-append known (name ∷ more) b =
     ∙ (let e : own + (count_new (known ++ name ∷ []) more + count_new (known ++ name ∷ more) b)
     ≡ own + count_new (known ++ name ∷ []) more + count_new (known ++ name ∷ more) b = omega arith in e)
 
+-- a name counts where it is none of those before it
+pub count-once : (names : List (List ℕ)) (name : List ℕ) → count_names (names ++ name ∷ []) ≡ count_names names + cond (is_among names name) 0 1
+count-once names name =
+    let own : ℕ = cond (is_among names name) 0 1 in
+    let e : own + 0 ≡ own = omega arith in
+    count_new-append [] names (name ∷ []) ∙ ap (λ (n : ℕ). count_names names + n) e
+
 -- more names are no fewer
 count_names-front : (a b : List (List ℕ)) → count_names a ≤ count_names (a ++ b)
 count_names-front a b = omega (arith, count_new-append [] a b)

@@ -10,7 +10,8 @@ use Rattle.dap_model.specs.State.{Batch, State, task_named}
 -- where both batches are of one known task, they share no bucket
 abbrev pub AreApart : List PlainTask → Batch → Batch → Type 0
 AreApart tasks a b =
-    (t : PlainTask) → task_named tasks a.task ≡ Some t → b.task ≡ a.task → shares_bucket a.span b.span t.precision ≡ false
+    (t : PlainTask) → task_named tasks a.task ≡ Some t → b.task ≡ a.task
+    → shares_bucket a.span b.span t.precision ≡ false
 
 -- each batch has a bucket, and no two batches of a known task share one
 abbrev pub ShareNoBucket : List PlainTask → List Batch → Type 0

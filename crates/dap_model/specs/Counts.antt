@@ -133,8 +133,9 @@ counted_line f task span opened lines =
     let reports = reports_with_content f opened task span + measured_in task span lines in
     let rejected = batch_rejected f task span opened.accepted in
     let total = total_numbers (f task.kind).space (contents_behind f task span opened lines) in
+    let answer = (f task.kind).answer total in
     if nat_le task.min reports
-    then (Collected task.name span (record { reports = reports; rejected = rejected; answer = (f task.kind).answer total }))
+    then (Collected task.name span (record { reports = reports; rejected = rejected; answer = answer }))
     else (Small task.name span reports)
 
 -- Line `number`, which collects the task's batch behind these lines, prints what is counted in the state in which they

@@ -102,7 +102,8 @@ collect_new f s span task =
 -- the collected batch is named that shares a bucket with this one, the one that starts first, if there is one
 abbrev pub collect_apart : (Kind → Functions) → State → ℕ → Span → PlainTask → Outcome
 collect_apart f s k span task =
-    option_map_or (λ other. (s, Overlap k other ∷ [])) (earliest (sharing task span s.collected)) (collect_new f s span task)
+    option_map_or (λ other. (s, Overlap k other ∷ [])) (earliest (sharing task span s.collected))
+    (collect_new f s span task)
 
 -- the task's batch is printed if it was collected, else it's collected if no bucket of it was and it has the reports
 abbrev pub collect_of : (Kind → Functions) → State → ℕ → Span → PlainTask → Outcome

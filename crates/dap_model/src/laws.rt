@@ -1,6 +1,6 @@
 //! Laws of the plain model, in the words of who reads its output.
 
-ghost use Rattle.std.specs.Prelude.{◌≡◌, ◌⊎◌, ◌<◌, ◌≤◌, ℕ, ◌+◌, List, [], ◌∷◌, ◌++◌, length, None, Some, true, false, take, filter_map};
+ghost use Rattle.std.specs.Prelude.{◌≡◌, ◌⊎◌, ◌<◌, ◌≤◌, ℕ, ◌+◌, List, [], ◌∷◌, ◌++◌, length, None, Some, true, false, take, filter_map, if◌then◌else◌};
 ghost use Rattle.std.specs.List.{All, AllZip, IsDistinct, list_any};
 ghost use Rattle.std.specs.Str.{bytes_eq};
 ghost use Rattle.dap_bytes.specs.Spans.{HasBuckets, passes_start};
@@ -12,6 +12,7 @@ ghost use Rattle.vdaf_api.specs.declared.kind.Kind.{Kind};
 ghost use Rattle.dap_messages.specs.Messages.{report};
 ghost use Rattle.dap_messages.specs.declared.report.Report.{Report};
 ghost use Rattle.dap_tasks.specs.Task.{PlainTask};
+ghost use Rattle.dap_script.specs.Script.{is_among};
 ghost use Rattle.dap_script.specs.Spelling.{IsInRange};
 ghost use Rattle.dap_script.specs.declared.line.Line.{Line as PlainLine};
 ghost use Rattle.dap_script.specs.declared.line.Line.TheVariants.{Collect, Measure, Upload};
@@ -167,10 +168,12 @@ pub fn passed_limits_are_exact()
 {}
 
 /// A law: too many tasks are known exactly where those from before a script and its own have too many different names. The
-/// line that is told is the first with which they have, and 0 where those from before have. Where all names are different
-/// they are as many as the tasks.
+/// line that is told is the first with which they have, and 0 where those from before have. A name counts where it is none
+/// of those before it, and only there; so where all names are different they are as many as the tasks.
 pub fn known_tasks_are_counted_by_name()
     ensures told { (most : ℕ) (opened : State) (lines : List PlainLine) → IsFullExact most opened lines }
+    ensures once { (names : List (List ℕ)) (name : List ℕ)
+        → count_names (names ++ name ∷ []) ≡ count_names names + (if is_among names name then 0 else 1) }
     ensures different { (names : List (List ℕ)) → IsDistinct bytes_eq names → count_names names ≡ length names }
 {}
 

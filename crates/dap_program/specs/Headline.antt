@@ -35,7 +35,8 @@ run_limits = record { reports = 50000; bytes = 268435456 }
 
 -- ---- a script
 
--- The model's text from the state in which the given tasks are known and nothing else is; or, where a limit of the run is passed, the text of the segments before the line with which it is.
+-- The model's text from the state in which the given tasks are known and nothing else is; or, where a limit of the run is
+-- passed, the text of the segments before the line with which it is.
 abbrev pub run_outcome : List PlainTask → List Line → Option Passed → Outcome
 run_outcome given lines None = record { status = Done; text = model_text functions_of_kind (opening given) lines }
 run_outcome given lines (Some passed) = record {

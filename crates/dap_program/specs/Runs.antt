@@ -23,7 +23,9 @@ Gives (Err status) read =
 
 -- a fault of the files, a refusal or want of memory
 abbrev pub IsFileStop : Status → Type 0
-IsFileStop status = (status ≡ ReadFault) ⊎ (status ≡ NoMemory) ⊎ ((task : ℕ) × (field : List ℕ) × (status ≡ TasksRefused task field))
+IsFileStop status =
+    (status ≡ ReadFault) ⊎ (status ≡ NoMemory)
+    ⊎ ((task : ℕ) × (field : List ℕ) × (status ≡ TasksRefused task field))
 
 -- a limit that is passed while lines are run, a fault of the sink or want of memory
 abbrev pub IsRunStop : Status → Type 0

@@ -27,7 +27,8 @@ printed_before given before name span behind =
 -- numbers
 abbrev pub sum_line : PlainTask → List ℕ → Span → List (List ℕ) → Printed
 sum_line t name span measurements =
-    Collected name span (record { reports = length measurements; rejected = 0; answer = whole_answer t.kind measurements })
+    let answer = whole_answer t.kind measurements in
+    Collected name span (record { reports = length measurements; rejected = 0; answer = answer })
 
 -- The text has this line behind what the lines before it print.
 pub record HasLine (text : List ℕ) (before : List Printed) (printed : Printed) : Type 0 where

@@ -19,7 +19,8 @@ file_told (Some name) contents = option_map Some (contents name)
 
 -- the work of a command, where these bytes are left of the script and the files hold these
 abbrev pub work_of : PlainCommand → Option (List ℕ) → (List ℕ → Option (List ℕ)) → Option Work
-work_of (Running name) left contents = option_and_then (λ file. option_map (Scripted file) left) (file_told name contents)
+work_of (Running name) left contents =
+    option_and_then (λ file. option_map (Scripted file) left) (file_told name contents)
 work_of (Checking name) left contents = option_map Checked (contents name)
 work_of (Loading reports seed) left contents = Some (Loaded reports seed)
 work_of Helping left contents = Some Helped
