@@ -1,0 +1,11 @@
+pub mod Agree
+pub mod First
+pub mod Fronts
+pub mod Growth
+pub mod Lists
+pub mod Outcomes
+pub mod Plain
+pub mod Shown
+pub mod Static
+pub mod Verdicts
+pub mod Whole
