@@ -1,0 +1,9 @@
+pub mod CallLaws
+pub mod CatalogLaws
+pub mod FoundLaws
+pub mod JudgeLaws
+pub mod LaneLaws
+pub mod OpenLaws
+pub mod OwnLaws
+pub mod ReadyLaws
+pub mod SoundLaws
