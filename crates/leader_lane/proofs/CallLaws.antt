@@ -1,5 +1,5 @@
 -- The calls of a lane.
-use Rattle.std.proofs.Common.{◌≡◌, ◌≢◌, ◌⊎◌, inl, inr, ⊎_elim, ◌↔◌, ℕ, zero, suc, ◌+◌, ◌-◌, ◌≤◌, ◌<◌, List, [], ◌∷◌, ◌++◌, length, take, drop, min, max, leb, reverse, map, Bool, true, false, Option, Some, None, Ok, Err, refl, sym, ap, subst, ◌∙◌, append-nil, append_assoc, arith}
+use Rattle.std.proofs.Common.{◌≡◌, ◌≢◌, ◌⊎◌, inl, inr, ⊎_elim, ◌↔◌, ℕ, zero, suc, ◌+◌, ◌≤◌, ◌<◌, List, [], ◌∷◌, ◌++◌, length, take, drop, min, max, leb, reverse, Bool, true, false, Option, Some, None, Ok, Err, refl, sym, ap, subst, ◌∙◌, append-nil, append_assoc, arith}
 use Rattle.std.specs.Prelude.{IsTrue, OnOk, OnErr, Result}
 use Rattle.std.specs.List.{list_all}
 use Rattle.std.specs.declared.alloc.AllocError.{AllocError}
@@ -21,7 +21,7 @@ use Rattle.part_journal.specs.declared.fault.Appended.TheVariants.{Done, Kept, L
 use Rattle.part_journal.specs.declared.fault.PartFault.{PartFault}
 use Rattle.part_journal.specs.declared.fault.TheConstants.{MOST_STOPS}
 use Rattle.part_journal.specs.declared.fault.PartFault.TheVariants.{Stopped as PartStopped, NoMemory as PartNoMemory}
-use Rattle.part_journal.specs.Pages.{Pages, first_pages, reopening, begun, done, refused, IsBack, Restarted, UnderWay}
+use Rattle.part_journal.specs.Pages.{Pages, first_pages, reopening, begun, IsBack, Restarted, UnderWay}
 use Rattle.part_journal.specs.Part.{PartView, SameOpening, DeadWhere, IsDone, ComesBack, IsRefused, StaysDown, IsAtRest}
 use Rattle.part_journal.specs.Came.{Came}
 use Rattle.part_journal.specs.Counts.{CountsStops}

@@ -8,7 +8,7 @@ use Rattle.lane_records.specs.declared.record.Record.TheVariants.{Accept}
 use Rattle.legal_journals.specs.LeaderIndexed.{LeaderIndexes}
 use Rattle.legal_journals.specs.declared.leader_index.LeaderIndex.{LeaderIndex}
 use Rattle.legal_journals.specs.Reports.{Report}
-use Rattle.part_journal.specs.Came.{Opens, CameBy, Came}
+use Rattle.part_journal.specs.Came.{CameBy, Came}
 use Rattle.part_journal.specs.CameLaws.{opens_then}
 use Rattle.part_journal.specs.Pages.{Pages}
 use Rattle.leader_lane.specs.declared.catalog.Catalog.{Catalog}

@@ -1,9 +1,8 @@
 -- Judging, one stretch after another.
-use Rattle.std.proofs.Common.{◌≡◌, ◌⊎◌, inl, inr, ℕ, zero, suc, ◌||◌, List, [], ◌∷◌, ◌++◌, length, filter_map, Bool, true, false, Option, Some, None, refl, sym, ap, subst, ◌∙◌, append_assoc, append-nil}
-use Rattle.std.specs.List.{list_any, find}
-use Rattle.std.specs.Option.{option_or, option_map_or}
+use Rattle.std.proofs.Common.{◌≡◌, inl, inr, ℕ, zero, suc, ◌||◌, List, [], ◌∷◌, ◌++◌, length, filter_map, Bool, false, Option, Some, None, refl, sym, ap, subst, ◌∙◌, append_assoc, append-nil}
+use Rattle.std.specs.List.{list_any}
+use Rattle.std.specs.Option.{option_map_or}
 use Rattle.std.proofs.lemmas.List.Elements.{filter_map-append}
-use Rattle.std.proofs.lemmas.List.Folds.{find-append, list_any-append}
 use Rattle.dap_messages.specs.declared.report.Report.{Report}
 use Rattle.dap_wire.specs.declared.upload.Upload.{Upload}
 use Rattle.lane_records.specs.declared.record.Record.{Record}

@@ -1,7 +1,6 @@
 -- The pages and the book along a lane's calls.
-use Rattle.std.proofs.Common.{◌≡◌, ◌≢◌, ◌⊎◌, inl, inr, ℕ, ◌+◌, ◌≤◌, List, [], ◌∷◌, ◌++◌, length, take, drop, Bool, true, false, Option, Some, None, refl, sym, ap, subst, ◌∙◌, append_assoc, append-nil, arith, if◌then◌else◌}
+use Rattle.std.proofs.Common.{◌≡◌, ◌≢◌, ℕ, ◌+◌, ◌≤◌, List, [], ◌∷◌, ◌++◌, length, take, drop, Bool, true, false, Option, Some, None, refl, sym, ap, subst, ◌∙◌, append_assoc, append-nil, arith}
 use Rattle.std.proofs.lemmas.List.{length-append, take-append-le, take_all, drop-append-le, take-append-drop, length-drop, length-take-le}
-use Rattle.dap_messages.specs.declared.report.Report.{Report}
 use Rattle.dap_wire.specs.declared.upload.Upload.{Upload}
 use Rattle.lane_records.specs.declared.record.Record.{Record}
 use Rattle.legal_journals.specs.History.{Mem}

@@ -1,11 +1,8 @@
 -- Own steps along a journal's calls.
-use Rattle.std.proofs.Common.{◌≡◌, ◌⊎◌, inl, inr, List, [], ◌∷◌, ◌++◌, reverse, map, Bool, true, false, Option, Some, None, Result, Ok, Err, refl, sym, ap, subst, ◌∙◌, append_assoc, append-nil}
+use Rattle.std.proofs.Common.{◌≡◌, inl, inr, List, [], ◌∷◌, ◌++◌, reverse, Bool, true, false, refl, sym, ap, subst}
 use Rattle.std.proofs.lemmas.List.{reverse-append}
-use Rattle.dap_messages.specs.declared.report.Report.{Report}
-use Rattle.dap_tasks.specs.Task.{PlainTask}
 use Rattle.lane_records.specs.declared.record.Record.{Record}
-use Rattle.lane_records.specs.declared.record.Record.TheVariants.{Accept}
-use Rattle.part_journal.specs.Pages.{Pages, begun, done, refused, settled, reopening, reopened, restarts, first_pages, IsBack, Restarted, UnderWay, Opening}
+use Rattle.part_journal.specs.Pages.{Pages, done, refused, settled, reopening, reopened, restarts, first_pages, IsBack, Restarted, UnderWay, Opening}
 use Rattle.leader_lane.specs.Judge.{Env}
 use Rattle.leader_lane.specs.Sound.{IsPlace, opener_of, Sound}
 use Rattle.leader_lane.specs.Own.{Own, own, OwnStep, Reopens, Opened, Ends, Stops, StepMay, after, OwnSteps, Steps}

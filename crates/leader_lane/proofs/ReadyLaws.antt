@@ -2,8 +2,7 @@
 use Rattle.std.proofs.Common.{◌≡◌, ℕ, suc, ◌+◌, ◌*◌, ◌≤◌, List, [], ◌∷◌, ◌++◌, length, map, reverse, Option, Some, None, refl, sym, ap, subst, ◌∙◌, append_assoc, append-nil, arith}
 use Rattle.std.specs.Prelude.{IsTrue, IfSome, OnOk, OnErr, Result, Ok, Err, true}
 use Rattle.dap_tasks.specs.declared.cause.Cause.{Cause}
-use Rattle.std.specs.List.{flat_map, list_all}
-use Rattle.std.specs.Int.{to_be_bytes, w32}
+use Rattle.std.specs.List.{list_all}
 use Rattle.std.specs.Option.{option_map_or}
 use Rattle.std.proofs.lemmas.List.{map-append, length-append}
 use Rattle.std.proofs.lemmas.Grind.{flat_map-append}

@@ -1,8 +1,8 @@
 -- What may follow in a lane's journal.
-use Rattle.std.proofs.Common.{◌≡◌, ◌⊎◌, inl, inr, ⊎_elim, ℕ, zero, suc, ◌≤◌, ◌<◌, List, [], ◌∷◌, ◌++◌, reverse, Bool, true, false, ◌&&◌, ◌==◌, is_some, Option, Some, None, cond, if◌then◌else◌, refl, sym, ap, subst, ◌∙◌, append_assoc, append-nil, arith, Bor}
+use Rattle.std.proofs.Common.{◌≡◌, ◌⊎◌, inl, inr, ⊎_elim, ℕ, zero, suc, ◌≤◌, List, [], ◌∷◌, ◌++◌, reverse, Bool, true, false, ◌&&◌, ◌==◌, is_some, Option, Some, None, cond, if◌then◌else◌, refl, sym, ap, subst, ◌∙◌, append_assoc, append-nil, arith, Bor}
 use Rattle.std.specs.Prelude.{nat_le, IsTrue, IfSome}
 use Rattle.std.specs.List.{find, list_any, list_all}
-use Rattle.std.specs.Option.{option_map, option_map_or, option_or}
+use Rattle.std.specs.Option.{option_map, option_map_or}
 use Rattle.std.proofs.lemmas.List.{reverse-append}
 use Rattle.std.proofs.lemmas.Bool.{and_from, and_parts, leb-false, false≢true}
 use Rattle.std.proofs.lemmas.Bool.Decides.{Decides-eqb}
@@ -25,7 +25,7 @@ use Rattle.lane_records.specs.declared.place.Place.{Place}
 use Rattle.lane_records.specs.declared.record.Record.{Record}
 use Rattle.lane_records.specs.declared.record.Record.TheVariants.{Accept, LeaderClose}
 use Rattle.legal_journals.specs.History.{Mem, lanes_in, opens, count_some}
-use Rattle.legal_journals.specs.Legal.{May, IsLegalJournal, IsLegal}
+use Rattle.legal_journals.specs.Legal.{May, IsLegal}
 use Rattle.lane_records.specs.Records.{record_}
 use Rattle.legal_journals.proofs.Grown.{legal_grown, older_legal, legal_allowed}
 use Rattle.legal_journals.proofs.Members.{Mem-reverse, Mem-from_reverse, any_told, all_told}

@@ -1,5 +1,5 @@
 -- What a lane looks up among its records and those of the block in hand.
-use Rattle.std.specs.Prelude.{◌≡◌, ℕ, List, [], ◌++◌, map, Bool, Option, Some, None}
+use Rattle.std.specs.Prelude.{◌≡◌, List, [], ◌++◌, map, Bool, Option, Some, None}
 use Rattle.dap_messages.specs.declared.report.Report.{Report as Told}
 use Rattle.lane_records.specs.declared.record.Record.{Record}
 use Rattle.lane_records.specs.declared.record.Record.TheVariants.{Accept}

@@ -1,5 +1,5 @@
 -- A leader's lane as its callers see it, what its type keeps, and what its calls do.
-use Rattle.std.specs.Prelude.{◌≡◌, ◌⊎◌, ℕ, ◌+◌, ◌-◌, ◌≤◌, ◌<◌, List, [], ◌++◌, length, take, drop, Bool, true, false, IsTrue, Option, Some}
+use Rattle.std.specs.Prelude.{◌≡◌, ◌⊎◌, ℕ, ◌+◌, ◌-◌, ◌≤◌, ◌<◌, List, [], ◌++◌, length, take, drop, Bool, false, IsTrue, Some}
 use Rattle.dap_bytes.specs.Causes.{Rose, RoseBy}
 use Rattle.dap_tasks.specs.Task.{PlainTask}
 use Rattle.dap_tasks.specs.declared.cause.Answer.{Answer}

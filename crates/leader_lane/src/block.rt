@@ -65,8 +65,10 @@ impl Block {
     fn accept(&mut self, catalog: &mut Catalog, r: Report) -> Result<(), AllocError>
         ensures records { OnOk result (self.new.records.items ≡ self.old.records.items ++ Accept r ∷ []) }
         ensures answers { self.new.answers ≡ self.old.answers }
-        ensures lists { OnOk result ((records : List Record) → Lists catalog.old records self.old.records.items → Lists catalog.new records self.new.records.items) }
-        ensures err { OnErr result ((records : List Record) → Lists catalog.old records self.old.records.items → (block : List Record) × Lists catalog.new records block) }
+        ensures lists { OnOk result ((records : List Record) → Lists catalog.old records self.old.records.items
+            → Lists catalog.new records self.new.records.items) }
+        ensures err { OnErr result ((records : List Record) → Lists catalog.old records self.old.records.items
+            → (block : List Record) × Lists catalog.new records block) }
     {
         let name = r.name;
         let id = r.id;
@@ -78,10 +80,13 @@ impl Block {
 
     /// Adds the report's Accept, where it is added.
     fn add(&mut self, catalog: &mut Catalog, judged: Judged, r: Report) -> Result<(), AllocError>
-        ensures records { OnOk result (self.new.records.items ≡ self.old.records.items ++ map Accept (added_by judged (Some r))) }
+        ensures records { OnOk result (self.new.records.items
+            ≡ self.old.records.items ++ map Accept (added_by judged (Some r))) }
         ensures answers { self.new.answers ≡ self.old.answers }
-        ensures lists { OnOk result ((records : List Record) → Lists catalog.old records self.old.records.items → Lists catalog.new records self.new.records.items) }
-        ensures err { OnErr result ((records : List Record) → Lists catalog.old records self.old.records.items → (block : List Record) × Lists catalog.new records block) }
+        ensures lists { OnOk result ((records : List Record) → Lists catalog.old records self.old.records.items
+            → Lists catalog.new records self.new.records.items) }
+        ensures err { OnErr result ((records : List Record) → Lists catalog.old records self.old.records.items
+            → (block : List Record) × Lists catalog.new records block) }
     {
         match judged {
             Judged::Added => self.accept(catalog, r),
@@ -103,7 +108,11 @@ impl Block {
         requires sound { Sound place (records.now ++ self.old.records.items) }
         requires opened { Mem (opener_of place) records.now }
         requires lists { Lists catalog.old records.now self.old.records.items }
-        ensures ready { OnOk result ((us : List upload.Upload) → Ready (record { tasks = tasks.now; place = place }) records.now self.old.records.items self.old.answers.items us → Ready (record { tasks = tasks.now; place = place }) records.now self.new.records.items self.new.answers.items (us ++ u.now ∷ [])) }
+        ensures ready { OnOk result ((us : List upload.Upload)
+            → Ready (record { tasks = tasks.now; place = place }) records.now self.old.records.items
+            self.old.answers.items us
+            → Ready (record { tasks = tasks.now; place = place }) records.now self.new.records.items
+            self.new.answers.items (us ++ u.now ∷ [])) }
         ensures lists { OnOk result (Lists catalog.new records.now self.new.records.items) }
         ensures err { OnErr result ((block : List Record) × Lists catalog.new records.now block) }
     {
@@ -137,7 +146,8 @@ fn judge_each<V: Vdaf>(
     requires sound { Sound place records.now }
     requires opened { Mem (opener_of place) records.now }
     requires lists { Lists catalog.old records.now [] }
-    ensures ready { IfOk result (λ b. Ready (record { tasks = tasks.now; place = place }) records.now b.records.items b.answers.items us.now) }
+    ensures ready { IfOk result (λ b. Ready (record { tasks = tasks.now; place = place }) records.now b.records.items
+        b.answers.items us.now) }
     ensures lists { IfOk result (λ b. Lists catalog.new records.now b.records.items) }
     ensures err { OnErr result ((block : List Record) × Lists catalog.new records.now block) }
 {
@@ -162,9 +172,11 @@ pub(crate) fn judge_all<V: Vdaf>(
     requires sound { Sound place records.now }
     requires opened { Mem (opener_of place) records.now }
     requires lists { (seen more : List Record) × (records.now ≡ seen ++ more) × Lists catalog.old seen [] }
-    ensures ready { IfOk result (λ b. Ready (record { tasks = tasks.now; place = place }) records.now b.records.items b.answers.items us.now) }
+    ensures ready { IfOk result (λ b. Ready (record { tasks = tasks.now; place = place }) records.now b.records.items
+        b.answers.items us.now) }
     ensures lists { IfOk result (λ b. Lists catalog.new records.now b.records.items) }
-    ensures err { OnErr result ((seen more : List Record) → Lists catalog.old seen [] → records.now ≡ seen ++ more → (some rest : List Record) × (more ≡ some ++ rest) × Lists catalog.new (seen ++ some) []) }
+    ensures err { OnErr result ((seen more : List Record) → Lists catalog.old seen [] → records.now ≡ seen ++ more
+        → (some rest : List Record) × (more ≡ some ++ rest) × Lists catalog.new (seen ++ some) []) }
 {
     catalog.catch_up(records)?;
     match judge_each(alloc, place, tasks, records, catalog, us) {

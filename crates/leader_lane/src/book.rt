@@ -57,8 +57,10 @@ impl Book {
 
     /// Takes an upload more from the ring, and says whether there was one.
     pub(crate) fn take_from(&mut self, front: &mut LaneEnd) -> Result<bool, AllocError>
-        ensures took { result ≡ Ok true → (u : upload.Upload) × (self.new ≡ held u self.old) × (front.new.received ≡ front.old.received ++ u ∷ []) }
-        ensures none { result ≡ Ok false → (self.new ≡ self.old) × (front.new.received ≡ front.old.received) × (front.new.waiting ≡ []) }
+        ensures took { result ≡ Ok true → (u : upload.Upload) × (self.new ≡ held u self.old)
+            × (front.new.received ≡ front.old.received ++ u ∷ []) }
+        ensures none { result ≡ Ok false → (self.new ≡ self.old) × (front.new.received ≡ front.old.received)
+            × (front.new.waiting ≡ []) }
         ensures err { OnErr result ((self.new ≡ self.old) × (front.new ≡ front.old)) }
         ensures ring { front.new.into ≡ front.old.into }
     {

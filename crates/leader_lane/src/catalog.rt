@@ -35,8 +35,10 @@ impl Catalog {
 
     /// Takes in the records behind those that it has. Where memory runs out it has some of them.
     pub(crate) fn catch_up(&mut self, records: &[Record]) -> Result<(), AllocError>
-        ensures ok { OnOk result ((seen more : List Record) → Lists self.old seen [] → records.now ≡ seen ++ more → Lists self.new records.now []) }
-        ensures err { OnErr result ((seen more : List Record) → Lists self.old seen [] → records.now ≡ seen ++ more → (some rest : List Record) × (more ≡ some ++ rest) × Lists self.new (seen ++ some) []) }
+        ensures ok { OnOk result ((seen more : List Record) → Lists self.old seen [] → records.now ≡ seen ++ more
+            → Lists self.new records.now []) }
+        ensures err { OnErr result ((seen more : List Record) → Lists self.old seen [] → records.now ≡ seen ++ more
+            → (some rest : List Record) × (more ≡ some ++ rest) × Lists self.new (seen ++ some) []) }
     {
         let from = self.index.len().min(records.len());
         let rest = &records[from..];
@@ -49,8 +51,10 @@ impl Catalog {
     /// The block in hand has this Accept too, which has this key.
     pub(crate) fn enter(&mut self, key: (Name, Id), x: &Record) -> Result<(), AllocError>
         requires { (r : report.Report) × (x.now ≡ Accept r) × (key ≡ key_of r) }
-        ensures ok { OnOk result ((records block : List Record) → Lists self.old records block → Lists self.new records (block ++ x.now ∷ [])) }
-        ensures err { OnErr result ((records block : List Record) → Lists self.old records block → Lists self.new records block) }
+        ensures ok { OnOk result ((records block : List Record) → Lists self.old records block
+            → Lists self.new records (block ++ x.now ∷ [])) }
+        ensures err { OnErr result ((records block : List Record) → Lists self.old records block
+            → Lists self.new records block) }
     {
         self.entered.try_reserve(1)?;
         self.index.push(x)?;
@@ -76,8 +80,10 @@ impl Catalog {
 
     /// By what became of the block in hand; nothing while that is open. It takes no memory.
     pub(crate) fn settle(&mut self, fate: Option<bool>)
-        ensures landed { fate ≡ Some true → (records block : List Record) → Lists self.old records block → Lists self.new (records ++ block) [] }
-        ensures lost { fate ≡ Some false → (records block : List Record) → Lists self.old records block → Lists self.new records [] }
+        ensures landed { fate ≡ Some true → (records block : List Record) → Lists self.old records block
+            → Lists self.new (records ++ block) [] }
+        ensures lost { fate ≡ Some false → (records block : List Record) → Lists self.old records block
+            → Lists self.new records [] }
         ensures open { fate ≡ None → self.new ≡ self.old }
     {
         match fate {
@@ -89,14 +95,16 @@ impl Catalog {
 
     /// The place of the report's Accept, among the records with the block in hand behind them. It takes no memory.
     pub(crate) fn accepted(&self, name: &Name, id: &Id) -> Option<usize>
-        ensures { (records block : List Record) → Lists self.now records block → result ≡ place_of (accepts name.now id.now) (records ++ block) }
+        ensures { (records block : List Record) → Lists self.now records block
+            → result ≡ place_of (accepts name.now id.now) (records ++ block) }
     {
         self.index.accepted(name, id)
     }
 
     /// Whether the bucket of this name and start is closed. It takes no memory.
     pub(crate) fn is_closed(&self, name: &Name, start: u64) -> bool
-        ensures { (records block : List Record) → Lists self.now records block → result ≡ is_closed (closes_in (records ++ block)) name.now start }
+        ensures { (records block : List Record) → Lists self.now records block
+            → result ≡ is_closed (closes_in (records ++ block)) name.now start }
     {
         self.index.closed(name, start).is_some()
     }

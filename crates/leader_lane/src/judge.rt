@@ -71,7 +71,8 @@ fn judge_known(
 ) -> Judged
     requires known { IfSome known (λ k. IsTrue (report.allowed k.now)) }
     requires allowed { IsTrue (report.allowed r.now) }
-    ensures { result ≡ judged (option_map (λ k. report.spell k.now) known.entry) moment expires closed (report.spell r.now) r.now.time }
+    ensures { result ≡ judged (option_map (λ k. report.spell k.now) known.entry) moment expires closed
+        (report.spell r.now) r.now.time }
 {
     if is_again(known, r) {
         Judged::Again
@@ -103,7 +104,8 @@ pub(crate) fn judge_report<V: Vdaf>(
     requires records { IsTrue (list_all record_.allowed (records.now ++ block.now)) }
     requires allowed { IsTrue (report.allowed r.now) }
     requires bytes { u.now.report ≡ report.spell r.now }
-    ensures { result ≡ judge_report (record { tasks = tasks.now; place = place }) (closes_in (records.now ++ block.now)) (reports_in (records.now ++ block.now)) u.now r.now }
+    ensures { result ≡ judge_report (record { tasks = tasks.now; place = place })
+        (closes_in (records.now ++ block.now)) (reports_in (records.now ++ block.now)) u.now r.now }
 {
     if lane_of(&r.id, place.lanes) != place.lane {
         return Judged::Barred(Cause::Task);

@@ -94,15 +94,21 @@ impl<V: Vdaf, D: Disk, T: Fates> LeaderLane<V, D, T> {
         requires front { front.received ≡ [] }
         requires link { link.sent ≡ [] }
 
-        ensures opened { IfOk result (λ lane. (records : List Record) → Spells place log.records records → IsOpened records lane) }
-        ensures given { IfOk result (λ lane. (lane.place ≡ place) × (lane.tasks ≡ tasks) × (lane.front ≡ front) × (lane.link ≡ link)) }
-        ensures counts { IfOk result (λ lane. CountsStops D.downs D.deads ⊥ MOST_STOPS lane.part.left log.disk lane.part.disk) }
-        ensures since { IfOk result (λ lane. CountsSince D.downs D.deads (D.downs log.disk) (D.deads log.disk) lane.part) }
+        ensures opened { IfOk result (λ lane. (records : List Record) → Spells place log.records records
+            → IsOpened records lane) }
+        ensures given { IfOk result (λ lane. (lane.place ≡ place) × (lane.tasks ≡ tasks) × (lane.front ≡ front)
+            × (lane.link ≡ link)) }
+        ensures counts { IfOk result (λ lane. CountsStops D.downs D.deads ⊥ MOST_STOPS lane.part.left log.disk
+            lane.part.disk) }
+        ensures since { IfOk result (λ lane. CountsSince D.downs D.deads (D.downs log.disk) (D.deads log.disk)
+            lane.part) }
 
-        ensures refused { IfErr result (λ e. (records : List Record) → Spells place log.records records → IsHandedBack (record { tasks = tasks; place = place }) records e.log) }
+        ensures refused { IfErr result (λ e. (records : List Record) → Spells place log.records records
+            → IsHandedBack (record { tasks = tasks; place = place }) records e.log) }
         ensures images { IfErr result (λ e. Leaves D.may_leave e.log) }
         ensures ends { IfErr result (λ e. (e.front ≡ front) × (e.link ≡ link)) }
-        ensures counts_err { IfErr result (λ e. (left : ℕ) × CountsStops D.downs D.deads (e.fault ≡ LaneFault.Stopped) MOST_STOPS left log.disk e.log.disk) }
+        ensures counts_err { IfErr result (λ e. (left : ℕ)
+            × CountsStops D.downs D.deads (e.fault ≡ LaneFault.Stopped) MOST_STOPS left log.disk e.log.disk) }
     {
         records_are_bounded();
         let _up = log.up();
@@ -175,7 +181,8 @@ impl<V: Vdaf, D: Disk, T: Fates> LeaderLane<V, D, T> {
     /// found its uploads are judged, else they stay in hand.
     pub fn restart(&mut self, alloc: Global) -> Result<(), LaneFault>
         ensures goes { Goes D.downs D.deads self.old self.new }
-        ensures counts { CountsStops D.downs D.deads (result ≡ Err LaneFault.Stopped) (max self.old.part.left 1) self.new.part.left self.old.part.disk self.new.part.disk }
+        ensures counts { CountsStops D.downs D.deads (result ≡ Err LaneFault.Stopped) (max self.old.part.left 1)
+            self.new.part.left self.old.part.disk self.new.part.disk }
         ensures stopped { IsTrue self.new.stopped ↔ (result ≡ Err LaneFault.Stopped) }
         ensures up { OnOk result (IsTrue self.new.part.up) }
         ensures book { self.new.book ≡ settled_by self.new.part.pages.fate self.old.book }

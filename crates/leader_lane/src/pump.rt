@@ -30,9 +30,13 @@ impl<V: Vdaf, D: Disk, T: Fates> LeaderLane<V, D, T> {
         ensures goes { Goes D.downs D.deads self.old self.new }
         ensures part { (self.new.part ≡ self.old.part) × (self.new.stopped ≡ self.old.stopped) }
         ensures memory { result ≡ Err LaneFault.Stopped → ⊥ }
-        ensures took { result ≡ Ok true → (u : upload.Upload) × (self.new.book ≡ record self.old.book { hand = self.old.book.hand ++ u ∷ [] }) × (self.new.front.received ≡ self.old.front.received ++ u ∷ []) }
-        ensures none { result ≡ Ok false → (self.new.book ≡ self.old.book) × (self.new.front.received ≡ self.old.front.received) × (self.new.front.waiting ≡ []) }
-        ensures err { result ≡ Err LaneFault.NoMemory → (self.new.book ≡ self.old.book) × (self.new.front ≡ self.old.front) }
+        ensures took { result ≡ Ok true → (u : upload.Upload)
+            × (self.new.book ≡ record self.old.book { hand = self.old.book.hand ++ u ∷ [] })
+            × (self.new.front.received ≡ self.old.front.received ++ u ∷ []) }
+        ensures none { result ≡ Ok false → (self.new.book ≡ self.old.book)
+            × (self.new.front.received ≡ self.old.front.received) × (self.new.front.waiting ≡ []) }
+        ensures err { result ≡ Err LaneFault.NoMemory → (self.new.book ≡ self.old.book)
+            × (self.new.front ≡ self.old.front) }
     {
         let _up = self.journal.up();
         match self.book.take_from(&mut self.front) {
@@ -65,7 +69,8 @@ impl<V: Vdaf, D: Disk, T: Fates> LeaderLane<V, D, T> {
         requires up { IsTrue self.old.part.up }
         requires within { judged ≤ length self.old.book.hand }
         ensures goes { Goes D.downs D.deads self.old self.new }
-        ensures counts { CountsStops D.downs D.deads (result ≡ Err LaneFault.Stopped) self.old.part.left self.new.part.left self.old.part.disk self.new.part.disk }
+        ensures counts { CountsStops D.downs D.deads (result ≡ Err LaneFault.Stopped) self.old.part.left
+            self.new.part.left self.old.part.disk self.new.part.disk }
         ensures stopped { IsTrue self.new.stopped ↔ (result ≡ Err LaneFault.Stopped) }
         ensures done { result ≡ Ok Appended.Done → IsJudged judged self.old self.new }
         ensures kept { result ≡ Ok Appended.Kept → IsJudged judged self.old self.new }
@@ -105,7 +110,8 @@ impl<V: Vdaf, D: Disk, T: Fates> LeaderLane<V, D, T> {
         requires up { IsTrue self.old.part.up }
         requires within { judged ≤ length self.old.book.hand }
         ensures goes { Goes D.downs D.deads self.old self.new }
-        ensures counts { CountsStops D.downs D.deads (result ≡ Err LaneFault.Stopped) self.old.part.left self.new.part.left self.old.part.disk self.new.part.disk }
+        ensures counts { CountsStops D.downs D.deads (result ≡ Err LaneFault.Stopped) self.old.part.left
+            self.new.part.left self.old.part.disk self.new.part.disk }
         ensures stopped { IsTrue self.new.stopped ↔ (result ≡ Err LaneFault.Stopped) }
         ensures ok { OnOk result (IsJudged judged self.old self.new) }
         ensures front { self.new.front ≡ self.old.front }
@@ -135,7 +141,8 @@ impl<V: Vdaf, D: Disk, T: Fates> LeaderLane<V, D, T> {
 
         // On every answer.
         ensures goes { Goes D.downs D.deads self.old self.new }
-        ensures counts { CountsStops D.downs D.deads (result ≡ Err LaneFault.Stopped) self.old.part.left self.new.part.left self.old.part.disk self.new.part.disk }
+        ensures counts { CountsStops D.downs D.deads (result ≡ Err LaneFault.Stopped) self.old.part.left
+            self.new.part.left self.old.part.disk self.new.part.disk }
         ensures stopped { IsTrue self.new.stopped ↔ (result ≡ Err LaneFault.Stopped) }
     {
         let _up = self.up();
@@ -163,7 +170,8 @@ impl<V: Vdaf, D: Disk, T: Fates> LeaderLane<V, D, T> {
 
         // On every answer.
         ensures goes { Goes D.downs D.deads self.old self.new }
-        ensures counts { CountsStops D.downs D.deads (result ≡ Err LaneFault.Stopped) self.old.part.left self.new.part.left self.old.part.disk self.new.part.disk }
+        ensures counts { CountsStops D.downs D.deads (result ≡ Err LaneFault.Stopped) self.old.part.left
+            self.new.part.left self.old.part.disk self.new.part.disk }
         ensures stopped { IsTrue self.new.stopped ↔ (result ≡ Err LaneFault.Stopped) }
     {
         match self.pump_many(alloc, 1) {

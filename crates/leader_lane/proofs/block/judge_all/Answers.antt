@@ -1,4 +1,4 @@
-use Rattle.std.proofs.Common.{◌≡◌, ◌++◌, [], List, sym, refl, subst, append-nil}
+use Rattle.std.proofs.Common.{[], List, sym, refl, subst, append-nil}
 use Rattle.lane_records.specs.declared.record.Record.{Record}
 use Rattle.legal_journals.proofs.Results.{told_err}
 use Rattle.leader_lane.specs.Catalog.{Lists}

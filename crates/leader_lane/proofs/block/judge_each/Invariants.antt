@@ -1,4 +1,4 @@
-use Rattle.std.proofs.Common.{◌≡◌, take}
+use Rattle.std.proofs.Common.{take}
 use Rattle.leader_lane.specs.Catalog.{Lists}
 use Rattle.leader_lane.specs.Ready.{Ready}
 use Rattle.leader_lane.proofs.block.judge_each.Given as goal

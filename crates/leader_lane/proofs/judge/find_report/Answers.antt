@@ -1,4 +1,4 @@
-use Rattle.std.proofs.Common.{◌≡◌, ◌++◌}
+use Rattle.std.proofs.Common.{◌++◌}
 use Rattle.leader_lane.proofs.FoundLaws.{found_none, found_past, found_at, found_other}
 use Rattle.leader_lane.proofs.judge.find_report.Goals as goal
 

@@ -1,4 +1,4 @@
-use Rattle.std.proofs.Common.{◌≡◌, ◌++◌, List, ℕ}
+use Rattle.std.proofs.Common.{◌++◌}
 use Rattle.dap_messages.specs.Reports.{has_key}
 use Rattle.leader_lane.proofs.SoundLaws.{if_found}
 use Rattle.leader_lane.proofs.judge.judge_report.Goals as goal

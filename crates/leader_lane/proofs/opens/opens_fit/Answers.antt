@@ -1,4 +1,4 @@
-use Rattle.std.proofs.Common.{◌≡◌, List, IsTrue, take, refl, sym, subst, ◌∙◌}
+use Rattle.std.proofs.Common.{List, take, refl, sym, subst, ◌∙◌}
 use Rattle.std.proofs.lemmas.Bool.{false≢true}
 use Rattle.std.proofs.lemmas.List.{take_all}
 use Rattle.lane_records.specs.declared.record.Record.{Record}

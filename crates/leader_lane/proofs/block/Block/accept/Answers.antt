@@ -1,4 +1,4 @@
-use Rattle.std.proofs.Common.{◌≡◌, ◌++◌, ◌∷◌, [], List, refl, sym, subst}
+use Rattle.std.proofs.Common.{List, refl, sym, subst}
 use Rattle.lane_records.specs.declared.record.Record.{Record}
 use Rattle.legal_journals.proofs.Results.{told_err}
 use Rattle.leader_lane.specs.Catalog.{Lists}

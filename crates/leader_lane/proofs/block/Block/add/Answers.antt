@@ -1,4 +1,4 @@
-use Rattle.std.proofs.Common.{◌≡◌, ◌++◌, ◌∷◌, [], map, Some, sym, subst}
+use Rattle.std.proofs.Common.{◌≡◌, ◌++◌, map, Some, sym, subst}
 use Rattle.std.specs.Prelude.{OnOk}
 use Rattle.dap_tasks.specs.declared.cause.Judged.{Judged}
 use Rattle.lane_records.specs.declared.record.Record.TheVariants.{Accept}

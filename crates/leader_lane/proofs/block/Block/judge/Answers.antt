@@ -1,4 +1,4 @@
-use Rattle.std.proofs.Common.{◌≡◌, ◌++◌, List, sym, ap, subst, ◌∙◌, arith}
+use Rattle.std.proofs.Common.{List, sym, ap, subst, ◌∙◌}
 use Rattle.lane_records.specs.declared.record.Record.{Record}
 use Rattle.legal_journals.proofs.Results.{told_err, map_ok}
 use Rattle.leader_lane.specs.Catalog.{Lists}

@@ -1,4 +1,4 @@
-use Rattle.std.proofs.Common.{◌≡◌, List, vec_len}
+use Rattle.std.proofs.Common.{List, vec_len}
 use Rattle.lane_records.specs.declared.record.Record.{Record}
 use Rattle.leader_lane.specs.Catalog.{Lists}
 use Rattle.leader_lane.proofs.catalog.Catalog.lose.Given as goal

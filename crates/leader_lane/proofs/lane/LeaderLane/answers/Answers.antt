@@ -1,6 +1,5 @@
-use Rattle.std.proofs.Common.{◌≡◌}
 use Rattle.leader_lane.specs.Lane.{LaneView}
-use Rattle.leader_lane.proofs.CallLaws.{lane_rests, lane_empties}
+use Rattle.leader_lane.proofs.CallLaws.{lane_empties}
 use Rattle.leader_lane.proofs.lane.LeaderLane.answers.Goals as goal
 
 pub invariant_of-self : goal.invariant_of-self

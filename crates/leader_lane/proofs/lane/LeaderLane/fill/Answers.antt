@@ -1,7 +1,5 @@
-use Rattle.std.proofs.Common.{◌≡◌, ◌<◌, ℕ, List, Ok, Err, sym, subst, ap, ◌∙◌, refl, IsTrue, length, drop, arith}
-use Rattle.dap_wire.specs.declared.upload.Upload.{Upload}
+use Rattle.std.proofs.Common.{◌<◌, ℕ, Ok, sym, subst, ap, ◌∙◌, refl, IsTrue, drop}
 use Rattle.leader_lane.specs.Book.{BookView}
-use Rattle.leader_lane.specs.Lane.{LaneView, Goes, Fills}
 use Rattle.leader_lane.proofs.CallLaws.{goes_none, goes_then, fills_none, fills_more, rest_more}
 use Rattle.leader_lane.proofs.lane.LeaderLane.fill.Goals as goal
 

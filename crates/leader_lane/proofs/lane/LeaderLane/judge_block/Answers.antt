@@ -1,4 +1,4 @@
-use Rattle.std.proofs.Common.{◌≡◌, ◌-◌, ◌≤◌, [], List, Option, Bool, Result, Ok, Err, length, take, drop, sym, subst, ap, ◌∙◌, refl, IsTrue, arith}
+use Rattle.std.proofs.Common.{◌≡◌, ◌≤◌, [], List, Option, Bool, Result, Ok, Err, length, take, sym, subst, ap, ◌∙◌, refl, IsTrue, arith}
 use Rattle.std.proofs.lemmas.Grind.{common_steps}
 use Rattle.std.proofs.lemmas.List.{nil_from_length, length-take-le}
 use Rattle.dap_wire.specs.declared.upload.Upload.{Upload}

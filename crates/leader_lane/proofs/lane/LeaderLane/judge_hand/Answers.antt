@@ -1,5 +1,4 @@
-use Rattle.std.proofs.Common.{◌≡◌, ◌≤◌, List, Result, Ok, Err, sym, subst, ap, ◌∙◌, refl, length}
-use Rattle.dap_wire.specs.declared.upload.Upload.{Upload}
+use Rattle.std.proofs.Common.{◌≡◌, Result, Ok, Err, sym, ap, ◌∙◌, refl}
 use Rattle.lane_records.specs.declared.place.LaneFault.{LaneFault}
 use Rattle.lane_records.specs.declared.place.LaneFault.TheVariants.{Stopped as LaneStopped}
 use Rattle.part_journal.specs.CountsLaws.{stops_none}

@@ -1,4 +1,4 @@
-use Rattle.std.proofs.Common.{◌≡◌, ◌≤◌, length, IsTrue}
+use Rattle.std.proofs.Common.{◌≡◌, IsTrue}
 use Rattle.part_journal.specs.Counts.{CountsStops}
 use Rattle.leader_lane.specs.Lane.{Goes}
 use Rattle.leader_lane.proofs.lane.LeaderLane.judge_hand.Given as goal

@@ -1,14 +1,13 @@
-use Rattle.std.proofs.Common.{◌≡◌, ℕ, List, [], length, IsTrue, refl, sym, ap, ◌∙◌, subst, true, false, vec_len, arith}
+use Rattle.std.proofs.Common.{◌≡◌, List, [], length, refl, ap, ◌∙◌, subst, false, vec_len, arith}
 use Rattle.lane_records.specs.declared.record.Record.{Record}
-use Rattle.lane_records.specs.Records.{record_}
 use Rattle.leader_lane.specs.Catalog.{Lists}
 use Rattle.leader_lane.specs.Judge.{Env}
 use Rattle.leader_lane.specs.Lane.{LaneView}
-use Rattle.leader_lane.specs.Sound.{Spells, opener_of}
-use Rattle.leader_lane.proofs.CallLaws.{lane_opens, since_opening}
+use Rattle.leader_lane.specs.Sound.{Spells}
+use Rattle.leader_lane.proofs.CallLaws.{lane_opens}
 use Rattle.leader_lane.proofs.OwnLaws.{steps_opened}
 use Rattle.leader_lane.proofs.SoundLaws.{sound_allowed}
-use Rattle.leader_lane.proofs.OpenLaws.{handed_same, handed_back, catalog_read, counts_begin, counts_refused, back_as, came_as, opening_as, given_allowed}
+use Rattle.leader_lane.proofs.OpenLaws.{handed_same, handed_back, catalog_read, counts_begin, back_as, came_as, opening_as}
 use Rattle.leader_lane.proofs.lane.LeaderLane.open.Goals as goal
 
 pub returns-in_default-clause-refused : goal.returns-in_default-clause-refused

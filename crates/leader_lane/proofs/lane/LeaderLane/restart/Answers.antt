@@ -1,6 +1,6 @@
-use Rattle.std.proofs.Common.{◌≡◌, sym, subst, ap, ◌∙◌, IsTrue, Option, Bool}
+use Rattle.std.proofs.Common.{◌≡◌, sym, subst, ◌∙◌, Option, Bool}
 use Rattle.leader_lane.specs.Lane.{LaneView, Goes}
-use Rattle.leader_lane.proofs.CallLaws.{lane_restarts, told_stop, Settled}
+use Rattle.leader_lane.proofs.CallLaws.{lane_restarts, Settled}
 use Rattle.leader_lane.proofs.lane.LeaderLane.restart.Goals as goal
 
 pub invariant_of-self : goal.invariant_of-self

@@ -1,4 +1,4 @@
-use Rattle.std.proofs.Common.{◌≡◌, sym, subst, IsTrue, length, ◌<◌}
+use Rattle.std.proofs.Common.{sym, subst, IsTrue, length, ◌<◌}
 use Rattle.leader_lane.specs.Lane.{LaneView, Goes}
 use Rattle.leader_lane.proofs.CallLaws.{lane_holds}
 use Rattle.leader_lane.proofs.lane.LeaderLane.take_one.Goals as goal
