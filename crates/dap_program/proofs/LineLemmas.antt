@@ -1,5 +1,5 @@
 -- Why lines of a script are not run.
-use Rattle.std.proofs.Common.{◌≡◌, ℕ, ◌+◌, ◌<◌, List, [], ◌∷◌, ◌++◌, length, Bool, true, false, nat_lt, if◌then◌else◌, Option, Some, None, Result, Ok, Err, refl, sym, ap, subst, ◌∙◌, arith, append-nil, append_assoc, length-append}
+use Rattle.std.proofs.Common.{◌≡◌, ℕ, ◌+◌, ◌<◌, List, [], ◌∷◌, ◌++◌, length, Bool, true, false, nat_lt, if◌then◌else◌, Option, Some, None, Result, Ok, Err, refl, sym, ap, subst, ◌∙◌, arith, append-nil, append_assoc, length-append, ◌⊎◌, inl, inr}
 use Rattle.std.proofs.lemmas.Bool.Decides.{nat_tests}
 use Rattle.std.proofs.lemmas.List.{length-map}
 use Rattle.std.specs.List.{IsDistinct}
@@ -13,9 +13,10 @@ use Rattle.dap_model.proofs.NameCountLaws.{count-distinct, distinct-front}
 use Rattle.dap_model.specs.Limits.{count_names, full_from, full_line_of}
 use Rattle.dap_model.specs.State.{names_of, opening}
 use Rattle.dap_program.specs.Lines.{later_line_of, lines_run, with_few_tasks, with_lines}
+use Rattle.dap_program.specs.Runs.{IsScriptStop}
 use Rattle.dap_program.specs.declared.lines.TheConstants.{MAX_LINES, MAX_TASKS}
 use Rattle.dap_program.specs.declared.status.Status.{Status}
-use Rattle.dap_program.specs.declared.status.Status.TheVariants.{ScriptRefused, NotYet, Limit}
+use Rattle.dap_program.specs.declared.status.Status.TheVariants.{ScriptRefused, NotYet, Limit, NoMemory}
 
 -- ---- the tests, one after another
 
@@ -44,6 +45,17 @@ stopped given script status h stops =
     if_err (nat_lt LONGEST_SCRIPT (length script)) (Limit 0 5) _ (Err status) h (λ long same. stops.bytes (let many : LONGEST_SCRIPT < length script = grind (arith, nat_tests) in many) (cc same))
     (λ short k. if_err (is_longer script MAX_LINES) (Limit (MAX_LINES + 1) 4) _ (Err status) k (λ longer same. stops.lines longer (cc same))
     (λ few m. stopped_lines given script status (script_beside (names_of given) script) refl m stops))
+
+-- so a script that isn't run is stopped by what may stop one
+pub stops_script : (status : Status) (given : List PlainTask) (script : List ℕ) → (status ≡ NoMemory) ⊎ (lines_run given script ≡ Err status) → IsScriptStop status
+stops_script status given script (inl memory) = inr (inr (inr memory))
+stops_script status given script (inr stop) = stopped given script status stop (record {
+  bytes = λ long is. inr (inl (0, 5, is));
+  lines = λ longer is. inr (inl (MAX_LINES + 1, 4, is));
+  refused = λ n read is. inl (n, inl is);
+  later = λ lines n read first is. inl (n, inr is);
+  full = λ lines n read first is. inr (inl (n, 1, is));
+})
 
 gone_lines : (given : List PlainTask) (script : List ℕ) (lines : List Line) (read : Result (List Line) ℕ) → script_beside (names_of given) script ≡ read
     → with_lines given read ≡ Ok lines → script_beside (names_of given) script ≡ Ok lines

@@ -7,7 +7,7 @@ use Rattle.dap_script.specs.declared.line.Line.{Line}
 use Rattle.dap_program.specs.Headline.{IsStop, Outcome, Prints}
 use Rattle.dap_program.specs.Lines.{lines_run}
 use Rattle.dap_program.specs.declared.status.Status.{Status}
-use Rattle.dap_program.specs.declared.status.Status.TheVariants.{Done, Usage, TasksRefused, ScriptRefused, NotYet, ReadFault, WriteFault, Limit, NoMemory}
+use Rattle.dap_program.specs.declared.status.Status.TheVariants.{Done, TasksRefused, ScriptRefused, NotYet, ReadFault, WriteFault, Limit, NoMemory}
 
 -- the lines that are run, or the status of a script of which none are
 abbrev pub Plans : Result (Vec Line Global) Status → List PlainTask → List ℕ → Type 0
@@ -29,27 +29,14 @@ IsFileStop status =
 
 -- a limit that is passed while lines are run, a fault of the sink or want of memory
 abbrev pub IsRunStop : Status → Type 0
-IsRunStop (Limit line limit) = (limit ≡ 2) ⊎ (limit ≡ 3)
-IsRunStop WriteFault = Unit {0}
-IsRunStop NoMemory = Unit {0}
-IsRunStop Done = ⊥
-IsRunStop (Usage word) = ⊥
-IsRunStop (TasksRefused task field) = ⊥
-IsRunStop (ScriptRefused line) = ⊥
-IsRunStop (NotYet line) = ⊥
-IsRunStop ReadFault = ⊥
+IsRunStop status =
+    ((line : ℕ) × ((status ≡ Limit line 2) ⊎ (status ≡ Limit line 3))) ⊎ (status ≡ WriteFault) ⊎ (status ≡ NoMemory)
 
 -- what a script may be stopped by once its bytes are read
 abbrev pub IsScriptStop : Status → Type 0
-IsScriptStop (ScriptRefused line) = Unit {0}
-IsScriptStop (NotYet line) = Unit {0}
-IsScriptStop (Limit line limit) = Unit {0}
-IsScriptStop WriteFault = Unit {0}
-IsScriptStop NoMemory = Unit {0}
-IsScriptStop Done = ⊥
-IsScriptStop (Usage word) = ⊥
-IsScriptStop (TasksRefused task field) = ⊥
-IsScriptStop ReadFault = ⊥
+IsScriptStop status =
+    ((line : ℕ) × ((status ≡ ScriptRefused line) ⊎ (status ≡ NotYet line)))
+    ⊎ ((line limit : ℕ) × (status ≡ Limit line limit)) ⊎ (status ≡ WriteFault) ⊎ (status ≡ NoMemory)
 
 -- what the printing of a text may be stopped by
 abbrev pub IsPrintStop : Status → Type 0
@@ -57,15 +44,7 @@ IsPrintStop status = (status ≡ WriteFault) ⊎ (status ≡ NoMemory)
 
 -- what a check may be stopped by
 abbrev pub IsCheckStop : Status → Type 0
-IsCheckStop (TasksRefused task field) = Unit {0}
-IsCheckStop ReadFault = Unit {0}
-IsCheckStop WriteFault = Unit {0}
-IsCheckStop NoMemory = Unit {0}
-IsCheckStop Done = ⊥
-IsCheckStop (Usage word) = ⊥
-IsCheckStop (ScriptRefused line) = ⊥
-IsCheckStop (NotYet line) = ⊥
-IsCheckStop (Limit line limit) = ⊥
+IsCheckStop status = IsFileStop status ⊎ IsPrintStop status
 
 -- the status of an answer
 abbrev pub status_after : Result (Unit {0}) Status → Status

@@ -10,6 +10,9 @@ use dap_bytes::LONGEST_SCRIPT;
 use dap_outside::{Sink, SinkFault, Source};
 use std::alloc::Global;
 
+/// How many bytes are asked of a source at a time.
+const PIECE_LEN: usize = 4096;
+
 /// Takes some more bytes in.
 fn read_some<S: Source>(
     source: &mut S,
@@ -40,7 +43,7 @@ pub fn read_all<S: Source>(alloc: Global, source: &mut S) -> Result<Vec<u8>, Sta
         → IfSome (S.left source.old) (λ input. LONGEST_SCRIPT < length input) }
 {
     let mut bytes = Vec::new(alloc);
-    let mut buf = vec![in alloc; 0u8; 4096]?;
+    let mut buf = vec![in alloc; 0u8; PIECE_LEN]?;
     while bytes.len() <= LONGEST_SCRIPT {
         if read_some(source, &mut buf, &mut bytes)? == 0 {
             return Ok(bytes);
