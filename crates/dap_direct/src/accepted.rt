@@ -3,7 +3,7 @@
 ghost use Rattle.std.specs.Prelude.{◌≡◌, [], ◌∷◌, ◌++◌, IsTrue, IfSome, OnOk};
 ghost use Rattle.std.specs.Option.{option_map};
 ghost use Rattle.dap_messages.specs.Messages.{report};
-ghost use Rattle.dap_model.specs.State.{has_key, known_in};
+ghost use Rattle.dap_messages.specs.Reports.{known_in};
 
 use dap_bytes::{Id, Name};
 use dap_messages::Report;
@@ -28,13 +28,6 @@ impl Model for Accepted {
     ghost invariant = { λ a. All (λ r. IsTrue (report.allowed r)) a.reports.items };
 }
 
-/// Whether a report is of this task and has this identifier.
-fn has_key(report: &Report, task: &Name, id: &Id) -> bool
-    ensures { result ≡ has_key task.now id.now report.now }
-{
-    report.id == *id && report.name == *task
-}
-
 impl Accepted {
     /// No reports. It takes no memory.
     pub fn new(alloc: Global) -> Accepted
@@ -51,7 +44,7 @@ impl Accepted {
         ensures spelled { IfSome result (λ r. IsTrue (report.allowed r.now)) }
     {
         for report in &self.reports {
-            if has_key(report, task, id) {
+            if report.has_key(task, id) {
                 return Some(report);
             }
         }

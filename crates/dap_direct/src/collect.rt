@@ -7,7 +7,7 @@ ghost use Rattle.dap_model.specs.State.{contents_in, rejected_in};
 ghost use Rattle.dap_direct.specs.Sums.{AreOuts, AreSumsOver, JoinsBucket};
 
 use crate::batch::Batch;
-use crate::offer::refused;
+use crate::offer::refusal;
 use crate::state::Direct;
 use crate::sums::Sums;
 use dap_bytes::{LATEST_TIME, Name, Span};
@@ -109,10 +109,10 @@ impl Direct {
         ensures { IfOk result (Runs V.of_kind tasks.now line (Collect name.now span) self.old self.new) }
     {
         let Some((task, vdaf)) = tasks.find(name) else {
-            return Ok(refused(line, Cause::Task));
+            return Ok(refusal(line, Cause::Task));
         };
         if !span.passes_start(task.precision) {
-            return Ok(refused(line, Cause::Start));
+            return Ok(refusal(line, Cause::Start));
         }
         Ok(Some(self.collect_batch(alloc, task, vdaf, line, span)?))
     }

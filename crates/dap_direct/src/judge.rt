@@ -4,8 +4,9 @@ ghost use Rattle.std.specs.Prelude.{◌≡◌, ◌<◌, IsTrue, IfSome};
 ghost use Rattle.std.specs.Option.{option_map};
 ghost use Rattle.dap_batch.specs.Group.{batch_start};
 ghost use Rattle.dap_messages.specs.Messages.{report};
+ghost use Rattle.dap_messages.specs.Reports.{known_in};
 ghost use Rattle.dap_tasks.specs.Judged.{is_known_as, judged};
-ghost use Rattle.dap_model.specs.State.{is_closed, known_in};
+ghost use Rattle.dap_model.specs.State.{is_closed};
 
 use crate::batch::Batch;
 use crate::state::Direct;

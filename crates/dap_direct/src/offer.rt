@@ -32,7 +32,7 @@ pub struct Measured<'a> {
 }
 
 /// The printed line of a line that is refused.
-pub fn refused(line: u32, cause: Cause) -> Option<Printed>
+pub fn refusal(line: u32, cause: Cause) -> Option<Printed>
     ensures { option_to_list result ≡ Printed.Refused line cause ∷ [] }
 {
     Some(Printed::Refused { line, cause })
@@ -150,7 +150,7 @@ impl Direct {
     {
         match self.judge(task, &new) {
             Judged::Again => Ok(None),
-            Judged::Barred(cause) => Ok(refused(line, cause)),
+            Judged::Barred(cause) => Ok(refusal(line, cause)),
             Judged::Added => {
                 self.add(alloc, task, vdaf, new)?;
                 Ok(None)
@@ -175,7 +175,7 @@ impl Direct {
         ensures { IfOk result (Uploads V.of_kind task.now line bytes.now self.old self.new) }
     {
         match report_in(alloc, bytes)? {
-            None => Ok(refused(line, Cause::Form)),
+            None => Ok(refusal(line, Cause::Form)),
             Some(new) => {
                 self.offered.count(bytes.len());
                 self.offer(alloc, task, vdaf, line, new)

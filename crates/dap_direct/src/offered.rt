@@ -38,7 +38,7 @@ impl Offered {
 
     /// The number of the limit that is passed, if one is: 2 is that of the reports, 3 that of their bytes. It takes no
     /// memory.
-    pub fn passed(&self, limits: &Limits) -> Option<u8>
+    pub fn passed_limit(&self, limits: &Limits) -> Option<u8>
         ensures { (reports : List Report) → AreOffered reports self.now → result ≡ limit_passed limits.now reports }
     {
         if self.reports > limits.reports {

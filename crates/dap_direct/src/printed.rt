@@ -37,7 +37,7 @@ fn run<V: ListVdaf>(
     let mut number: u32 = 1;
     for line in script {
         let printed = direct.step(alloc, tasks, number, line)?;
-        if let Some(limit) = direct.offered.passed(limits) {
+        if let Some(limit) = direct.offered.passed_limit(limits) {
             let text = told.into_whole();
             return Err(RunFault::Limit {
                 line: number,

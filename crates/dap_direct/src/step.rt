@@ -5,7 +5,7 @@ ghost use Rattle.dap_bytes.specs.Name.{IsName};
 ghost use Rattle.dap_script.specs.Spelling.{IsInRange};
 ghost use Rattle.dap_script.specs.declared.line.Line.TheVariants.{Measure, Upload};
 
-use crate::offer::{Measured, honest_bytes, name_in, refused};
+use crate::offer::{Measured, honest_bytes, name_in, refusal};
 use crate::state::Direct;
 use dap_bytes::{LATEST_TIME, Name};
 use dap_model::Printed;
@@ -34,10 +34,10 @@ impl Direct {
             (Measure name.now given.now.id given.now.time given.now.value.now given.now.seed) self.old self.new) }
     {
         let Some((task, vdaf)) = tasks.find(name) else {
-            return Ok(refused(line, Cause::Task));
+            return Ok(refusal(line, Cause::Task));
         };
         let Some(bytes) = honest_bytes(alloc, task, vdaf, given)? else {
-            return Ok(refused(line, Cause::Value));
+            return Ok(refusal(line, Cause::Value));
         };
         self.upload_to(alloc, task, vdaf, line, &bytes)
     }
@@ -54,10 +54,10 @@ impl Direct {
         ensures { IfOk result (Runs V.of_kind tasks.now line (Upload bytes.now) self.old self.new) }
     {
         let Some(name) = name_in(bytes) else {
-            return Ok(refused(line, Cause::Form));
+            return Ok(refusal(line, Cause::Form));
         };
         let Some((task, vdaf)) = tasks.find(&name) else {
-            return Ok(refused(line, Cause::Task));
+            return Ok(refusal(line, Cause::Task));
         };
         self.upload_to(alloc, task, vdaf, line, bytes)
     }

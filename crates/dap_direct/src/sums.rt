@@ -136,7 +136,7 @@ impl Sums {
     }
 
     /// What the sums come to.
-    fn collected<V: Vdaf>(&self, alloc: Global, vdaf: &V) -> Result<Collected, AllocError>
+    fn collection<V: Vdaf>(&self, alloc: Global, vdaf: &V) -> Result<Collected, AllocError>
         requires leader { IsOut (V.functions vdaf.now).space self.now.leader.items }
         requires helper { IsOut (V.functions vdaf.now).space self.now.helper.items }
         ensures { IfOk result (λ what. what ≡ record {
@@ -164,7 +164,7 @@ impl Sums {
         requires helper { IsOut (V.functions vdaf.now).space self.now.helper.items }
         ensures { IfOk result (λ line. line ≡ line_of (V.functions vdaf.now) name span self.now) }
     {
-        let what = self.collected(alloc, vdaf)?;
+        let what = self.collection(alloc, vdaf)?;
         Ok(Printed::Collected { name, span, what })
     }
 }

@@ -9,6 +9,7 @@ use Rattle.std.specs.Option.{option_map}
 use Rattle.std.specs.Str.{bytes_eq}
 use Rattle.dap_batch.specs.Group.{batch_start}
 use Rattle.dap_messages.specs.Messages.{report}
+use Rattle.dap_messages.specs.Reports.{has_key, known_in}
 use Rattle.dap_messages.specs.declared.report.Report.{Report}
 use Rattle.dap_tasks.specs.Judged.{is_early, is_expired, is_known_as}
 use Rattle.dap_tasks.specs.Task.{PlainTask}
@@ -16,7 +17,7 @@ use Rattle.dap_model.proofs.ListLemmas.{Passing, any_from, any_in, contains_case
 use Rattle.dap_model.proofs.TestLemmas.{by_tests}
 use Rattle.dap_model.specs.Changes.{AreDistinct}
 use Rattle.dap_model.specs.Offers.{IsClosed, IsInTime, IsJudged, IsKnown}
-use Rattle.dap_model.specs.State.{Batch, State, has_bucket, has_key, is_batch, is_closed, is_collected, known_in}
+use Rattle.dap_model.specs.State.{Batch, State, has_bucket, is_batch, is_closed, is_collected}
 use Rattle.dap_model.specs.Step.{Outcome, after_judgement, offered}
 
 -- ---- accepted reports

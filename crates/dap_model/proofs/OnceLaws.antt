@@ -7,6 +7,7 @@ use Rattle.std.specs.Option.{option_map, option_map_or}
 use Rattle.vdaf_api.specs.Functions.{Functions}
 use Rattle.dap_messages.specs.declared.report.Report.{Report}
 use Rattle.dap_messages.specs.Messages.{report}
+use Rattle.dap_messages.specs.Reports.{has_key, known_in}
 use Rattle.dap_seal.specs.Reports.{honest_report}
 use Rattle.dap_batch.specs.Group.{batch_start}
 use Rattle.vdaf_api.specs.declared.kind.Kind.{Kind}
@@ -22,7 +23,7 @@ use Rattle.dap_script.specs.declared.line.Line.TheVariants as line
 use Rattle.dap_model.proofs.ChangeLaws.{by_task, collect_accepts}
 use Rattle.dap_model.specs.Changes.{AreDistinct}
 use Rattle.dap_model.specs.Run.{state_after}
-use Rattle.dap_model.specs.State.{State, has_key, known_in, is_closed}
+use Rattle.dap_model.specs.State.{State, is_closed}
 use Rattle.dap_model.specs.Step.{Outcome, after_judgement, measure_of, name_in, offered, refused, report_in, step, upload_named, upload_to, judgement}
 use Rattle.dap_model.proofs.TestLemmas.{added_by_tests}
 

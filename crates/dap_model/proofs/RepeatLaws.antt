@@ -14,6 +14,7 @@ use Rattle.vdaf_api.specs.declared.kind.Kind.{Kind}
 use Rattle.dap_batch.specs.Group.{batch_start}
 use Rattle.dap_messages.specs.Grammar.{whole}
 use Rattle.dap_messages.specs.Messages.{report}
+use Rattle.dap_messages.specs.Reports.{known_in}
 use Rattle.dap_messages.specs.declared.report.Report.{Report}
 use Rattle.dap_seal.specs.Reports.{report_of}
 use Rattle.dap_tasks.specs.Judged.{is_early, is_known_as, is_expired}
@@ -28,7 +29,7 @@ use Rattle.dap_model.proofs.ChangeLaws.{found_name}
 use Rattle.dap_model.proofs.NameLemmas.{name_in-report}
 use Rattle.dap_model.specs.Changes.{AddsBatch}
 use Rattle.dap_model.specs.Run.{state_after}
-use Rattle.dap_model.specs.State.{Batch, State, content_of, contents_in, is_batch, is_collected, known_in, rejected_in, batch_contents, batch_rejected, earliest, has_bucket, in_bucket, is_closed, sharing, with_collected}
+use Rattle.dap_model.specs.State.{Batch, State, content_of, contents_in, is_batch, is_collected, rejected_in, batch_contents, batch_rejected, earliest, has_bucket, in_bucket, is_closed, sharing, with_collected}
 use Rattle.dap_model.specs.Step.{Outcome, after_judgement, collect_of, collection_of, measure_of, name_in, offered, refused, step, upload_named, upload_to, judgement, reports_with_content}
 use Rattle.dap_model.specs.declared.printed.Printed.{Printed}
 use Rattle.dap_model.specs.declared.printed.Printed.TheVariants.{Collected}

@@ -15,6 +15,7 @@ use Rattle.vdaf_api.specs.declared.answer.Collected.{Collected as Counts}
 use Rattle.vdaf_api.specs.declared.kind.Kind.{Kind}
 use Rattle.dap_batch.specs.Group.{batch_start}
 use Rattle.dap_messages.specs.Messages.{report}
+use Rattle.dap_messages.specs.Reports.{known_in}
 use Rattle.dap_messages.specs.declared.report.Report.{Report}
 use Rattle.dap_seal.specs.Reports.{honest_report}
 use Rattle.dap_tasks.specs.Judged.{judged}
@@ -42,7 +43,7 @@ use Rattle.dap_model.specs.Offers.{IsKnown}
 use Rattle.dap_model.specs.Printed.{text_of}
 use Rattle.dap_model.specs.Run.{model_text, opening_of, printed_from, state_after}
 use Rattle.dap_model.specs.SameStates.{HaveSame, IsValid, SameOutcome, SameState}
-use Rattle.dap_model.specs.State.{Batch, State, batch_contents, batch_rejected, content_of, contents_in, earliest, has_bucket, in_bucket, is_batch, is_closed, is_collected, known_in, names_of, rejected_in, sharing, task_named}
+use Rattle.dap_model.specs.State.{Batch, State, batch_contents, batch_rejected, content_of, contents_in, earliest, has_bucket, in_bucket, is_batch, is_closed, is_collected, names_of, rejected_in, sharing, task_named}
 use Rattle.dap_model.specs.Step.{Outcome, after_judgement, collect_of, collection_of, judgement, measure_of, name_in, offered, raised, refused, report_in, reports_with_content, step, upload_named, upload_of, upload_to}
 use Rattle.dap_model.specs.declared.limits.Limits.{Limits}
 use Rattle.dap_model.specs.declared.printed.Printed.{Printed}

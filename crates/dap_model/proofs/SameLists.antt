@@ -10,7 +10,7 @@ use Rattle.dap_model.proofs.ListLemmas.{any_from, any_in, contains_cases, contai
 use Rattle.dap_model.proofs.OnceLaws.{has_key-turned}
 use Rattle.dap_model.specs.Changes.{AreDistinct}
 use Rattle.dap_model.specs.SameStates.{HaveSame}
-use Rattle.dap_model.specs.State.{has_key}
+use Rattle.dap_messages.specs.Reports.{has_key}
 
 -- ---- lists as sets
 

@@ -10,6 +10,7 @@ use Rattle.vdaf_api.specs.Functions.{Functions, Parts}
 use Rattle.vdaf_api.specs.declared.kind.Kind.{Kind}
 use Rattle.dap_batch.specs.Group.{batch_start}
 use Rattle.dap_messages.specs.Messages.{report}
+use Rattle.dap_messages.specs.Reports.{has_key, known_in}
 use Rattle.dap_messages.specs.declared.report.Report.{Report}
 use Rattle.dap_seal.specs.Reports.{report_of}
 use Rattle.dap_tasks.specs.Judged.{judged, is_early, is_expired}
@@ -25,7 +26,7 @@ use Rattle.dap_model.specs.Changes.{AddsBatch}
 use Rattle.dap_model.specs.Counts.{AreTaken, IsTaken, IsTakenLine, collects, is_collection, measures}
 use Rattle.dap_model.specs.Moments.{IsGreatest, IsTimely, time_in, times_of, times_since, IsUnexpired}
 use Rattle.dap_model.specs.Run.{printed_from, state_after}
-use Rattle.dap_model.specs.State.{State, has_key, known_in, Batch, has_bucket, is_closed}
+use Rattle.dap_model.specs.State.{State, Batch, has_bucket, is_closed}
 use Rattle.dap_model.specs.Step.{raised, Outcome, after_judgement, measure_of, offered, refused, step}
 use Rattle.dap_model.specs.declared.printed.Printed.{Printed}
 use Rattle.dap_bytes.specs.declared.span.Span.{Span}

@@ -12,6 +12,7 @@ use Rattle.dap_messages.specs.Grammar.{whole}
 use Rattle.dap_messages.specs.Laws.{whole_again}
 use Rattle.dap_messages.specs.MessageLaws.{report_lawful}
 use Rattle.dap_messages.specs.Messages.{report}
+use Rattle.dap_messages.specs.Reports.{known_in}
 use Rattle.dap_messages.specs.declared.report.Report.{Report}
 use Rattle.dap_seal.proofs.Honest.{honest-allowed, honest-is}
 use Rattle.dap_seal.specs.Reports.{report_of}
@@ -22,7 +23,7 @@ use Rattle.dap_tasks.specs.declared.cause.Cause.TheVariants as cause
 use Rattle.dap_script.specs.declared.line.Line.TheVariants as line
 use Rattle.dap_model.proofs.NameLemmas.{begins_from, name_in-begins, name_in-report}
 use Rattle.dap_batch.specs.Group.{batch_start}
-use Rattle.dap_model.specs.State.{State, known_in, is_closed}
+use Rattle.dap_model.specs.State.{State, is_closed}
 use Rattle.dap_model.specs.Step.{Outcome, after_judgement, measure_of, name_in, offered, refused, report_in, step, upload_named, upload_of, upload_to}
 use Rattle.dap_model.specs.Uploads.{GoesByTheFirstCause, IsHonest, IsNoReport, MeasuresByTheFirstCause, NamesNoTask}
 use Rattle.dap_model.specs.declared.printed.Printed.TheVariants.{Refused}

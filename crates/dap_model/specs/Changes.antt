@@ -5,7 +5,8 @@ use Rattle.dap_bytes.specs.declared.span.Span.{Span}
 use Rattle.dap_messages.specs.declared.report.Report.{Report}
 use Rattle.dap_script.specs.declared.line.Line.{Line}
 use Rattle.dap_script.specs.declared.line.Line.TheVariants as line
-use Rattle.dap_model.specs.State.{State, has_key, with_collected}
+use Rattle.dap_messages.specs.Reports.{has_key}
+use Rattle.dap_model.specs.State.{State, with_collected}
 use Rattle.dap_model.specs.Step.{raised, report_in}
 
 -- One report of this task, identifier and time is accepted after the others, and nothing else changes.

@@ -15,7 +15,8 @@ use Rattle.dap_script.specs.declared.line.Line.{Line}
 use Rattle.dap_script.specs.declared.line.Line.TheVariants as line
 use Rattle.dap_model.specs.Moments.{IsTimely, IsUnexpired, times_since}
 use Rattle.dap_model.specs.Run.{state_after}
-use Rattle.dap_model.specs.State.{Batch, State, batch_rejected, contents_in, has_bucket, has_key, is_closed, lies_in, task_named}
+use Rattle.dap_messages.specs.Reports.{has_key}
+use Rattle.dap_model.specs.State.{Batch, State, batch_rejected, contents_in, has_bucket, is_closed, lies_in, task_named}
 use Rattle.dap_model.specs.Step.{reports_with_content, step}
 use Rattle.dap_model.specs.declared.printed.Printed.{Printed}
 use Rattle.dap_model.specs.declared.printed.Printed.TheVariants.{Collected, Small}

@@ -1,14 +1,13 @@
 -- The plain state: what is known at a moment of the run.
 use Rattle.std.specs.Prelude.{ℕ, ◌+◌, List, [], ◌++◌, ◌∷◌, filter, map, Bool, ◌&&◌, nat_eq, nat_le, is_none, if◌then◌else◌, Option, Some, None}
 use Rattle.std.specs.List.{find, flat_map, list_any, sum_by}
-use Rattle.std.specs.Option.{option_map, option_map_or, option_to_list}
+use Rattle.std.specs.Option.{option_map_or, option_to_list}
 use Rattle.std.specs.Str.{bytes_eq}
 use Rattle.dap_bytes.specs.Spans.{buckets_of, holds_bucket, shares_bucket}
 use Rattle.dap_bytes.specs.declared.span.Span.{Span}
 use Rattle.vdaf_api.specs.Functions.{Functions}
 use Rattle.vdaf_api.specs.declared.kind.Kind.{Kind}
 use Rattle.dap_batch.specs.Group.{batch_start}
-use Rattle.dap_messages.specs.Messages.{report}
 use Rattle.dap_messages.specs.declared.report.Report.{Report}
 use Rattle.dap_seal.specs.Reports.{content_numbers_of}
 use Rattle.dap_tasks.specs.Task.{PlainTask, has_name}
@@ -78,14 +77,6 @@ earliest (a ∷ more) = Some (option_map_or (earlier a) (earliest more) a)
 -- the collected batches of the task that share a bucket with this one
 abbrev pub sharing : PlainTask → Span → List Batch → List Span
 sharing task span collected = map (λ b. b.span) (filter (shares_with task span) collected)
-
--- of this task and with this identifier
-abbrev pub has_key : List ℕ → List ℕ → Report → Bool
-has_key name id r = bytes_eq r.name name && bytes_eq r.id id
-
--- the bytes of the accepted report of this task with this identifier, if there is one
-abbrev pub known_in : List Report → List ℕ → List ℕ → Option (List ℕ)
-known_in accepted name id = option_map report.spell (find (has_key name id) accepted)
 
 -- ---- a bucket: a time of the task, rounded down to its precision
 

@@ -11,6 +11,7 @@ use Rattle.vdaf_api.specs.declared.kind.Kind.{Kind}
 use Rattle.dap_batch.specs.Group.{batch_start}
 use Rattle.dap_messages.specs.Grammar.{whole}
 use Rattle.dap_messages.specs.Messages.{report}
+use Rattle.dap_messages.specs.Reports.{known_in}
 use Rattle.dap_messages.specs.declared.report.Report.{Report}
 use Rattle.dap_seal.specs.Reports.{honest_report}
 use Rattle.dap_tasks.specs.Judged.{judged}
@@ -21,7 +22,7 @@ use Rattle.dap_tasks.specs.declared.cause.Judged.{Judged}
 use Rattle.dap_tasks.specs.declared.cause.Judged.TheVariants.{Again, Barred, Added}
 use Rattle.dap_script.specs.declared.line.Line.{Line}
 use Rattle.dap_script.specs.declared.line.Line.TheVariants as line
-use Rattle.dap_model.specs.State.{State, batch_contents, batch_rejected, earliest, is_closed, is_collected, known_in, sharing, task_named, with_collected}
+use Rattle.dap_model.specs.State.{State, batch_contents, batch_rejected, earliest, is_closed, is_collected, sharing, task_named, with_collected}
 use Rattle.dap_model.specs.declared.printed.Printed.{Printed}
 use Rattle.dap_model.specs.declared.printed.Printed.TheVariants.{Collected, Small, Refused, Overlap}
 

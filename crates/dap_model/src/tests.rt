@@ -181,21 +181,21 @@ fn expired_tasks()
 
 /// The buckets that a collected batch of two holds, and the batches that share one with it: not at equal starts alone.
 fn buckets()
-    ensures before { let closed = is_closed (record { task = codes "v"; span = record { start = 10; buckets = 2 } } ∷ []) in
-        closed (codes "v") 10 0 ≡ false }
-    ensures first { let closed = is_closed (record { task = codes "v"; span = record { start = 10; buckets = 2 } } ∷ []) in
-        closed (codes "v") 10 10 ≡ true }
-    ensures last { let closed = is_closed (record { task = codes "v"; span = record { start = 10; buckets = 2 } } ∷ []) in
-        closed (codes "v") 10 20 ≡ true }
-    ensures behind { let closed = is_closed (record { task = codes "v"; span = record { start = 10; buckets = 2 } } ∷ []) in
-        closed (codes "v") 10 30 ≡ false }
-    ensures of_another { let closed = is_closed (record { task = codes "v"; span = record { start = 10; buckets = 2 } } ∷ []) in
-        closed (codes "w") 10 10 ≡ false }
+    ensures before { let two : Batch = record { task = codes "v"; span = record { start = 10; buckets = 2 } } in
+        is_closed (two ∷ []) (codes "v") 10 0 ≡ false }
+    ensures first { let two : Batch = record { task = codes "v"; span = record { start = 10; buckets = 2 } } in
+        is_closed (two ∷ []) (codes "v") 10 10 ≡ true }
+    ensures last { let two : Batch = record { task = codes "v"; span = record { start = 10; buckets = 2 } } in
+        is_closed (two ∷ []) (codes "v") 10 20 ≡ true }
+    ensures behind { let two : Batch = record { task = codes "v"; span = record { start = 10; buckets = 2 } } in
+        is_closed (two ∷ []) (codes "v") 10 30 ≡ false }
+    ensures of_another { let two : Batch = record { task = codes "v"; span = record { start = 10; buckets = 2 } } in
+        is_closed (two ∷ []) (codes "w") 10 10 ≡ false }
     ensures shared { let t = trial_of (codes "v") Count 1 10 None in
         sharing t (one_bucket 20) (record { task = codes "v"; span = record { start = 10; buckets = 2 } } ∷ [])
         ≡ record { start = 10; buckets = 2 } ∷ [] }
-    ensures held { let t = trial_of (codes "v") Count 1 10 None in
-        sharing t (record { start = 0; buckets = 2 }) (record { task = codes "v"; span = record { start = 10; buckets = 2 } } ∷ [])
+    ensures held { let two : Batch = record { task = codes "v"; span = record { start = 10; buckets = 2 } } in
+        sharing (trial_of (codes "v") Count 1 10 None) (record { start = 0; buckets = 2 }) (two ∷ [])
         ≡ record { start = 10; buckets = 2 } ∷ [] }
     ensures apart { let t = trial_of (codes "v") Count 1 10 None in
         sharing t (one_bucket 30) (record { task = codes "v"; span = record { start = 10; buckets = 2 } } ∷ []) ≡ [] }
@@ -223,8 +223,8 @@ fn known_names()
 
 /// A script begins in the state before it, with its own tasks behind those that were known.
 fn opened_states()
-    ensures tasks { (s : State) (t : PlainTask) (name : List ℕ) (kind : Kind) → let first = record s { tasks = t ∷ [] } in
-        opening_of first (Task name kind 3 3600 None ∷ [])
+    ensures tasks { (s : State) (t : PlainTask) (name : List ℕ) (kind : Kind)
+        → let first = record s { tasks = t ∷ [] } in opening_of first (Task name kind 3 3600 None ∷ [])
         ≡ record first { tasks = t ∷ trial_of name kind 3 3600 None ∷ [] } }
     ensures moment { (f : Kind → Functions) → let first = record (opening []) { moment = Some 7 } in
         state_after f (opening_of first (Now 5 ∷ [])) 1 (Now 5 ∷ []) ≡ first }

@@ -1,5 +1,5 @@
 use Rattle.std.proofs.Common.{◌≡◌, drop}
-use Rattle.dap_model.specs.State.{known_in}
+use Rattle.dap_messages.specs.Reports.{known_in}
 use Rattle.dap_direct.proofs.accepted.Accepted.find.Given as goal
 
 -- none of the reports so far has the task and the identifier
