@@ -64,6 +64,8 @@ pub(crate) fn read_front<F: Read>(alloc: Global, file: &mut F) -> Result<Vec<u8>
 impl<'a, R: Files> dap_outside::Files for DirFiles<'a, R> {
     ghost contents = { λ _ _. None };
 
+    ghost missing = { λ _ _. ⊥ };
+
     ghost faults = { λ f. f.faults };
 
     fn read_file(&mut self, alloc: Global, name: &str) -> Result<Vec<u8>, FileFault> {

@@ -26,15 +26,20 @@ pub trait Files {
     /// What the file of a name holds, where that is told. None where it isn't, or where there is no such file.
     ghost contents: { Self → List ℕ → Option (List ℕ) };
 
+    /// It is told that there is no file of this name.
+    ghost missing: { Self → List ℕ → Type 0 };
+
     /// How often a reading has failed. It never falls.
     ghost faults: { Self → ℕ };
 
     /// The first `MAX_READ` bytes of the file of this name, or all where it is shorter.
-    /// It fails only where the faults rose by one, as for a file that isn't there, and else they stay. No file changes.
+    /// It fails only where the faults rose by one, as for a file that isn't there, and else they stay. No file changes,
+    /// and one that is told to be missing isn't read.
     fn read_file(&mut self, alloc: Global, name: &str) -> Result<Vec<u8>, FileFault>
         ensures bytes { IfOk result
             (λ read. IfSome (contents self.old name.now) (λ bytes. read.items ≡ take MAX_READ bytes)) }
         ensures size { IfOk result (λ read. length read.items ≤ MAX_READ) }
+        ensures gone { missing self.old name.now → ¬ (IsOk result) }
         ensures kept { (file : List ℕ) → contents self.new file ≡ contents self.old file }
         ensures faults { Counts (IsErrOf result FileFault.Failed) (faults self.old) (faults self.new) };
 }
@@ -93,12 +98,15 @@ impl Files for MemFiles {
 
     ghost contents = { λ f name. file_of f name };
 
+    ghost missing = { λ f name. file_of f name ≡ None };
+
     ghost faults = { λ f. faults_of f };
 
     fn read_file(&mut self, alloc: Global, name: &str) -> Result<Vec<u8>, FileFault>
         ensures bytes { IfOk result
             (λ read. IfSome (file_of self.old name.now) (λ bytes. read.items ≡ take MAX_READ bytes)) }
         ensures size { IfOk result (λ read. length read.items ≤ MAX_READ) }
+        ensures gone { file_of self.old name.now ≡ None → ¬ (IsOk result) }
         ensures kept { (file : List ℕ) → file_of self.new file ≡ file_of self.old file }
         ensures faults { Counts (IsErrOf result FileFault.Failed) (faults_of self.old) (faults_of self.new) }
 

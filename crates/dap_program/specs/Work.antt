@@ -50,6 +50,23 @@ IsRun (Loading reports seed) = ⊥
 IsRun Helping = ⊥
 IsRun Versioning = ⊥
 
+-- the words ask for a check
+abbrev pub IsCheck : PlainCommand → Type 0
+IsCheck (Running file) = ⊥
+IsCheck (Checking file) = Unit {0}
+IsCheck (Loading reports seed) = ⊥
+IsCheck Helping = ⊥
+IsCheck Versioning = ⊥
+
+-- the words name a task file, and this holds of its name
+abbrev pub IfNamed : PlainCommand → (List ℕ → Type 0) → Type 0
+IfNamed (Running None) P = ⊥
+IfNamed (Running (Some name)) P = P name
+IfNamed (Checking name) P = P name
+IfNamed (Loading reports seed) P = ⊥
+IfNamed Helping P = ⊥
+IfNamed Versioning P = ⊥
+
 -- the words name a task file
 abbrev pub HasFile : PlainCommand → Type 0
 HasFile (Running None) = ⊥

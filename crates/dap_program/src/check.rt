@@ -50,6 +50,7 @@ pub fn check<F: Files, K: Sink>(
     ensures writes { Counts (IsErrOf result Status.WriteFault) (K.faults out.old) (K.faults out.new) }
     ensures kept { (file : List ℕ) → F.contents files.new file ≡ F.contents files.old file }
     ensures only { IfErr result IsCheckStop }
+    ensures gone { F.missing files.old name.now → IsErrOf result Status.ReadFault ⊎ IsErrOf result Status.NoMemory }
 {
     let tasks = file_tasks(alloc, name, files)?;
     let text = task_lines(alloc, &tasks)?;

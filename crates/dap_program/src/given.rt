@@ -16,6 +16,9 @@ pub fn file_tasks<F: Files>(alloc: Global, name: &str, files: &mut F) -> Result<
     ensures tasks { IfSome (F.contents files.old name.now) (λ file. Gives result (tasks_of file)) }
     ensures distinct { IfOk result (λ tasks. AreDistinct tasks.items) }
 
+    // A file that is missing has none.
+    ensures gone { F.missing files.old name.now → IsErrOf result Status.ReadFault ⊎ IsErrOf result Status.NoMemory }
+
     // Nothing but a fault of the files, a refusal and want of memory stops it, and no file changes.
     ensures only { IfErr result IsFileStop }
     ensures faults { Counts (IsErrOf result Status.ReadFault) (F.faults files.old) (F.faults files.new) }

@@ -4,9 +4,9 @@ ghost use Rattle.std.specs.Prelude.{◌≡◌, ◌⊎◌, ◌↔◌, ◌≤◌, 
 ghost use Rattle.std.specs.Io.KnownBytes.{IsAtEnd};
 ghost use Rattle.dap_bytes.specs.Causes.{Counts, CountsEither, Rose};
 ghost use Rattle.dap_program.specs.Headline.{outcome_of, status_of, output_of, IsNotYet, IsPassed, IsScriptRefused, IsSilent, IsStop, IsTasksRefused, Prints};
-ghost use Rattle.dap_program.specs.Runs.{Ends, status_after};
+ghost use Rattle.dap_program.specs.Runs.{Ends, IsCheckStop, status_after};
 ghost use Rattle.dap_program.specs.Words.{command_of, plain, word_texts};
-ghost use Rattle.dap_program.specs.Work.{HasFile, IfFileTold, IfTold, IsRun, file_of, work_of};
+ghost use Rattle.dap_program.specs.Work.{HasFile, IfFileTold, IfNamed, IfTold, IsCheck, IsRun, file_of, work_of};
 
 use crate::check::check;
 use crate::help::{HELP, VERSION};
@@ -49,6 +49,11 @@ fn perform<S: Source, F: Files, K: Sink>(
     ensures script { (IsRun (plain command.entry) → ⊥) → script.new ≡ script.old }
     ensures files { (HasFile (plain command.entry) → ⊥) → files.new ≡ files.old }
     ensures kept { (file : List ℕ) → F.contents files.new file ≡ F.contents files.old file }
+    ensures checks { IsCheck (plain command.entry) → IfErr result IsCheckStop }
+    ensures named { (task : ℕ) (field : List ℕ) → IsErrOf result (Status.TasksRefused task field)
+        → HasFile (plain command.entry) }
+    ensures gone { IfNamed (plain command.entry) (F.missing files.old)
+        → IsErrOf result Status.ReadFault ⊎ IsErrOf result Status.NoMemory }
     ensures usage { (word : ℕ) → IsErrOf result (Status.Usage word) → ⊥ }
     ensures never { IsErrOf result Status.Done → ⊥ }
 {
@@ -124,6 +129,15 @@ pub fn dap_alone<S: Source, F: Files, K: Sink>(
     ensures files { IfOk (command_of (word_texts words.now))
         (λ command. (HasFile command → ⊥) → files.new ≡ files.old) }
     ensures kept { (file : List ℕ) → F.contents files.new file ≡ F.contents files.old file }
+
+    // A task file is refused only where one is named, and one that is missing is a read fault. A check ends with its own
+    // statuses alone.
+    ensures named { (task : ℕ) (field : List ℕ) → result ≡ Status.TasksRefused task field
+        → IfOk (command_of (word_texts words.now)) HasFile }
+    ensures gone { IfOk (command_of (word_texts words.now)) (λ command. IfNamed command (F.missing files.old)
+        → (result ≡ Status.ReadFault) ⊎ (result ≡ Status.NoMemory)) }
+    ensures checks { IfOk (command_of (word_texts words.now)) (λ command. IsCheck command
+        → (result ≡ Status.Done) ⊎ IsCheckStop result) }
 {
     match hear(words) {
         Err(word) => Status::Usage { word },

@@ -13,7 +13,7 @@ ghost use Rattle.dap_model.specs.State.{names_of, opening};
 ghost use Rattle.dap_program.specs.Lines.{lines_run};
 ghost use Rattle.dap_program.specs.Runs.{Ends, Gives, IsFileStop, IsRunStop, IsScriptStop, status_after};
 ghost use Rattle.dap_program.specs.Words.{plain_name, Running};
-ghost use Rattle.dap_program.specs.Work.{file_of, file_told, work_of};
+ghost use Rattle.dap_program.specs.Work.{HasFile, IfNamed, file_of, file_told, work_of};
 
 use crate::given::file_tasks;
 use crate::lines::lines_run;
@@ -97,6 +97,10 @@ fn given_tasks<F: Files>(
     ensures faults { Counts (IsErrOf result Status.ReadFault) (F.faults files.old) (F.faults files.new) }
     ensures kept { (file : List ℕ) → F.contents files.new file ≡ F.contents files.old file }
     ensures untouched { plain_name name.entry ≡ None → files.new ≡ files.old }
+    ensures named { (task : ℕ) (field : List ℕ) → IsErrOf result (Status.TasksRefused task field)
+        → HasFile (Running (plain_name name.entry)) }
+    ensures gone { IfNamed (Running (plain_name name.entry)) (F.missing files.old)
+        → IsErrOf result Status.ReadFault ⊎ IsErrOf result Status.NoMemory }
 {
     match name {
         None => Ok(Vec::new(alloc)),
@@ -126,6 +130,10 @@ pub fn run<S: Source, F: Files, K: Sink>(
     ensures writes { Counts (IsErrOf result Status.WriteFault) (K.faults out.old) (K.faults out.new) }
     ensures kept { (file : List ℕ) → F.contents files.new file ≡ F.contents files.old file }
     ensures untouched { plain_name tasks.entry ≡ None → files.new ≡ files.old }
+    ensures named { (task : ℕ) (field : List ℕ) → IsErrOf result (Status.TasksRefused task field)
+        → HasFile (Running (plain_name tasks.entry)) }
+    ensures gone { IfNamed (Running (plain_name tasks.entry)) (F.missing files.old)
+        → IsErrOf result Status.ReadFault ⊎ IsErrOf result Status.NoMemory }
     ensures usage { (word : ℕ) → IsErrOf result (Status.Usage word) → ⊥ }
     ensures never { IsErrOf result Status.Done → ⊥ }
 {
