@@ -41,6 +41,9 @@ fn a_closed_batch_takes_no_more(rt: HostRuntime) -> Result<(), Fail> {
         Err(BucketFault::Closed)
     );
     assert_eq!(rt; buckets.reject(&name, 0), Err(BucketFault::Closed));
+    let other = Name::new(b"w").expect(&rt, "a name");
+    buckets.reject(&other, 0)?;
+    buckets.reject(&name, 1)?;
     buckets.reject(&name, 3600)?;
     buckets.close(&name, 10_800)?;
     assert_eq!(rt; buckets.reject(&name, 10_800), Err(BucketFault::Closed));

@@ -90,6 +90,9 @@ const WIDE_REQ_FAULTS: [(usize, usize); 5] = [(0, 0), (1, 1), (2, 2), (3, 3), (1
 
 const WIDE_RESP_FAULTS: [(usize, usize); 6] = [(0, 0), (1, 1), (2, 2), (3, 3), (11, 11), (12, 12)];
 
+/// That the helper has 2 reports of the batch of `a` at 0.
+const SMALL: [u8; 16] = [6, 1, 0x61, 0, 0, 0, 0, 0, 0, 0, 0, 1, 0, 0, 0, 2];
+
 /// The share `9` of the batch of `a` at 0.
 const SHARE: [u8; 17] = [6, 1, 0x61, 0, 0, 0, 0, 0, 0, 0, 0, 0, 0, 0, 0, 1, 9];
 
@@ -272,7 +275,7 @@ fn each_form_is_read_and_written_again(rt: HostRuntime) -> Result<(), Fail> {
         SHARE_RESP.as_slice(),
         WIDE_REQ.as_slice(),
         WIDE_RESP.as_slice(),
-        [6, 1, 0x61, 0, 0, 0, 0, 0, 0, 0, 0, 1, 0, 0, 0, 2].as_slice(),
+        SMALL.as_slice(),
         SHARE.as_slice(),
     ] {
         assert_eq!(rt; again(alloc, bytes)?.as_slice(), bytes);
@@ -362,6 +365,53 @@ fn the_latest_time_is_read(rt: HostRuntime) -> Result<(), Fail> {
     assert_eq!(rt; report_fault_of(alloc, &latest)?, None);
     let late = spliced(alloc, &REPORT, 18, &LATE, 26)?;
     assert_eq!(rt; report_fault_of(alloc, &late)?, Some(18));
+    Ok(())
+}
+
+#[test]
+fn numbers_reach_both_ends(rt: HostRuntime) -> Result<(), Fail> {
+    let alloc = rt.alloc();
+    for (bytes, at, from) in [
+        (INIT_REQ.as_slice(), 1, 18),
+        (INIT_RESP.as_slice(), 1, 18),
+        (CONT_RESP.as_slice(), 1, 18),
+        (SHARE_REQ.as_slice(), 11, 15),
+        (WIDE_REQ.as_slice(), 12, 16),
+        (SMALL.as_slice(), 12, 16),
+        (SHARE_RESP.as_slice(), 12, 16),
+        (WIDE_RESP.as_slice(), 13, 17),
+    ] {
+        for byte in [0, 0xff] {
+            let mut text = Vec::new(alloc);
+            for (index, other) in bytes.iter().enumerate() {
+                let within = at <= index && index < from;
+                text.push(if within { byte } else { *other })?;
+            }
+            assert_eq!(rt;
+                again(alloc, &text)?.as_slice(),
+                text.as_slice(),
+                "{byte} at {at}"
+            );
+        }
+    }
+    Ok(())
+}
+
+#[test]
+fn a_half_has_its_shares_in_order(rt: HostRuntime) -> Result<(), Fail> {
+    let alloc = rt.alloc();
+    let shares = [0, 0, 0, 2, 0x61, 0x62, 0, 0, 0, 1, 0x63];
+    let text = spliced(alloc, &INIT_REQ, 46, &shares, 54)?;
+    let Ok(Message::InitReq(_, _, halves)) = read_message(alloc, &text) else {
+        return Err("not a message".into());
+    };
+    let [one] = halves.as_slice() else {
+        return Err("not one report".into());
+    };
+    assert_eq!(rt;
+        (one.body.public.as_slice(), one.body.helper.as_slice()),
+        ([0x61, 0x62].as_slice(), [0x63].as_slice())
+    );
     Ok(())
 }
 

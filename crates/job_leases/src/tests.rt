@@ -81,6 +81,12 @@ fn jobs_that_differ_in_one_number_are_two(rt: HostRuntime) -> Result<(), Fail> {
         leases.submit(numbered(2, 2, 2), Stage::Combine, None),
         Err(Stale { stands: None })
     );
+    assert!(rt;
+        leases
+            .submit(numbered(1, 1, 1), Stage::AwaitInit, None)
+            .is_ok()
+    );
+    assert_eq!(rt; leases.jobs().len(), 3);
     Ok(())
 }
 

@@ -28,6 +28,10 @@ fn the_first_job_stays(rt: HostRuntime) -> Result<(), Fail> {
     assert_eq!(rt; table.find(&name, &id), Some(job(3)));
     assert_eq!(rt; table.find(&other, &id), None);
     assert_eq!(rt; table.find(&name, &[2; 16]), None);
+    let mut near = id;
+    near[15] = 2;
+    assert_eq!(rt; table.find(&name, &near), None);
+    assert_eq!(rt; table.take_out(&name, &near), None);
     assert_eq!(rt; table.take_out(&other, &id), None);
     assert_eq!(rt; table.take_out(&name, &[2; 16]), None);
     assert_eq!(rt; table.take_out(&name, &id), Some(job(3)));
