@@ -8,6 +8,7 @@ pub mod KeyLemmas
 pub mod KeysLemmas
 pub mod NodeWidths
 pub mod OtherLemmas
+pub mod RangesLemmas
 pub mod Shorter
 pub mod TableLaws
 pub mod TasksLemmas

@@ -1,9 +1,9 @@
 //! The known tasks.
 
-ghost use Rattle.std.specs.Prelude.{◌≡◌, [], ◌∷◌, ◌++◌, IfSome, OnOk, IfErr, false};
+ghost use Rattle.std.specs.Prelude.{◌≡◌, [], ◌∷◌, ◌++◌, List, ℕ, Some, IfSome, OnOk, IfErr, false};
 ghost use Rattle.std.specs.List.{find, list_any};
 ghost use Rattle.std.specs.Option.{option_map};
-ghost use Rattle.dap_tasks.specs.Task.{IsTask, has_name};
+ghost use Rattle.dap_tasks.specs.Task.{IsTask, PlainTask, has_name};
 
 use crate::task::Task;
 use dap_bytes::Name;
@@ -29,13 +29,13 @@ pub struct Tasks<V: Vdaf> {
 impl<V: Vdaf> Model for Tasks<V> {
     ghost use Rattle.std.specs.Prelude.{List, map};
     ghost use Rattle.dap_tasks.specs.Task.{PlainTask};
-    ghost use Rattle.dap_tasks.specs.Tasks.{AreDistinct};
+    ghost use Rattle.dap_tasks.specs.Tasks.{AreDistinct, AreTasks};
 
     ghost Value = { List PlainTask };
 
     ghost view = { λ t. map (λ k. k.task) t.known.items };
 
-    ghost invariant = { λ t. AreDistinct (map (λ k. k.task) t.known.items) };
+    ghost invariant = { λ t. AreDistinct (map (λ k. k.task) t.known.items) × AreTasks (map (λ k. k.task) t.known.items) };
 }
 
 impl<V: Vdaf> Tasks<V> {
@@ -77,5 +77,12 @@ impl<V: Vdaf> Tasks<V> {
             }
         }
         None
+    }
+
+    /// A law: every task that is found by a name is within its ranges.
+    pub fn tasks_keep_their_ranges(&self)
+        ensures { (name : List ℕ) (task : PlainTask) → find (has_name name) self.now ≡ Some task → IsTask task }
+    {
+        let _count = self.known.len();
     }
 }
