@@ -16,7 +16,7 @@ use Rattle.dap_messages.specs.Grammar.{Grammar, ◌>>=◌, ◌⊗◌, ended, ite
 use Rattle.dap_messages.specs.Laws.{some_is}
 use Rattle.dap_messages.specs.Messages.{init_req, init_req_of}
 use Rattle.dap_views.specs.Parts.{are_parts, items_in, parts_at, Passes, place_in}
-use Rattle.dap_views.specs.Request.{request_in}
+use Rattle.dap_views.specs.Whole.{request_in}
 use Rattle.dap_views.proofs.Places.{AreBytes, at_place, input_past, stays}
 
 -- ---- fields one after the other

@@ -1,17 +1,16 @@
 -- A request of the leader, and the view that walks it.
-use Rattle.std.specs.Prelude.{◌≡◌, ℕ, ◌==◌, List, [], ◌∷◌, ◌++◌, drop, Option, Some, None, Result, Ok, Err, if◌then◌else◌}
+use Rattle.std.specs.Prelude.{◌≡◌, ℕ, List, [], ◌∷◌, ◌++◌, drop, Option, Some, None, Result, Ok, Err}
 use Rattle.dap_messages.specs.declared.body.Half.{Half}
 use Rattle.dap_messages.specs.declared.fault.Form.{Form}
 use Rattle.dap_messages.specs.declared.item.Tagged.{Tagged}
 use Rattle.dap_messages.specs.declared.job.JobNo.{JobNo}
-use Rattle.dap_messages.specs.declared.message.Message.{Message}
 use Rattle.dap_messages.specs.declared.message.Message.TheVariants.{InitReq}
 use Rattle.dap_messages.specs.Forms.{half}
-use Rattle.dap_messages.specs.Grammar.{item, whole}
-use Rattle.dap_messages.specs.Messages.{message}
+use Rattle.dap_messages.specs.Grammar.{item}
 use Rattle.dap_views.specs.declared.part.PartView.{PartView}
 use Rattle.dap_views.specs.declared.request.RequestView.{RequestView}
 use Rattle.dap_views.specs.Parts.{item_of, parts_at, place_in}
+use Rattle.dap_views.specs.Whole.{request_in}
 
 -- what a view shows: the whole message, its job and name, and the parts that are still to come
 pub record Request : Type 0 where
@@ -31,11 +30,6 @@ request_of v = record { message = v.bytes.now; job = v.job; name = v.name.now; p
 -- the bytes behind those that a view has walked past
 abbrev pub ahead_of : RequestView → List ℕ
 ahead_of v = drop v.place v.bytes.now
-
--- the message that a request's bytes spell, or the place of the first fault, which is 0 where the first byte isn't 01
-abbrev pub request_in : List ℕ → Result Message ℕ
-request_in [] = Err 0
-request_in (first ∷ rest) = if first == 1 then whole message (first ∷ rest) else Err 0
 
 -- the view shows the request that the bytes spell, with all of its parts, or this is the place of the first fault
 abbrev pub Views : List ℕ → Result RequestView Form → Type 0

@@ -2,6 +2,7 @@
 
 ghost use Rattle.std.specs.Prelude.{◌≡◌, ◌≤◌, length, true};
 ghost use Rattle.dap_views.specs.Parts.{are_parts, place_in};
+ghost use Rattle.dap_views.specs.Whole.{spells_request};
 
 use crate::part::PartView;
 use crate::read::read_part_at;
@@ -18,13 +19,14 @@ pub struct RequestView<'a> {
     left: u16,
     ghost within: { place ≤ length bytes.now },
     ghost parts: { are_parts left (place_in bytes.now place) ≡ true },
+    ghost request: { spells_request bytes.now job name.now ≡ true },
 }
 
 impl<'a> RequestView<'a> {
     ghost use Rattle.dap_views.specs.Parts.{parts_at};
     ghost use Rattle.dap_views.specs.Request.{request_of};
 
-    /// A view of a message whose job and name are known, which stands at a place where so many parts begin.
+    /// A view of a request whose job and name are known, which stands at a place where so many parts begin.
     pub(crate) fn at(
         bytes: &'a [u8],
         job: JobNo,
@@ -34,6 +36,7 @@ impl<'a> RequestView<'a> {
     ) -> RequestView<'a>
         requires within { place ≤ length bytes.now }
         requires parts { are_parts left (place_in bytes.now place) ≡ true }
+        requires request { spells_request bytes.now job name.now ≡ true }
         ensures { request_of result ≡ record {
           message = bytes.now;
           job = job;
@@ -66,7 +69,8 @@ impl<'a> RequestView<'a> {
 
     /// The whole message, however far it was walked.
     pub fn bytes(&self) -> &'a [u8]
-        ensures { result.now ≡ (request_of self.now).message }
+        ensures bytes { result.now ≡ (request_of self.now).message }
+        ensures request { spells_request result.now (request_of self.now).job (request_of self.now).name ≡ true }
     {
         self.bytes
     }

@@ -9,7 +9,7 @@ pub invariant_of-self : goal.invariant_of-self
 invariant_of-self c =
     let old = c.args.self.now in
     let walked = is_walked old.left old.place c.in-Ok.place old.bytes.now c.in-Ok.part (omega arith) old.parts c.in-Ok.ensures in
-    record { within = c.in-Ok.ensures.within; parts = walked.others }
+    record { within = c.in-Ok.ensures.within; parts = walked.others; request = old.request }
 
 pub returns-in-Err-clause-steps : goal.returns-in-Err-clause-steps
 returns-in-Err-clause-steps c =
