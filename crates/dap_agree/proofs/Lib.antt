@@ -1,5 +1,6 @@
 pub mod Answered
 pub mod Closed
+pub mod Disks
 pub mod Example
 pub mod First
 pub mod Fresh

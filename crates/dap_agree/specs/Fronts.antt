@@ -5,6 +5,7 @@ use Rattle.std.specs.Str.{bytes_eq}
 use Rattle.vdaf_api.specs.Functions.{Functions}
 use Rattle.vdaf_api.specs.Totals.{total}
 use Rattle.vdaf_api.specs.Vectors.{IsOut}
+use Rattle.vdaf_api.specs.declared.keys.SealKeys.{SealKeys}
 use Rattle.vdaf_api.specs.declared.kind.Kind.{Kind}
 use Rattle.dap_batch.specs.Checksum.{xor_bytes, no_checksum}
 use Rattle.dap_bytes.specs.declared.node.Node.TheVariants.{Leader, Helper}
@@ -16,6 +17,7 @@ use Rattle.dap_messages.specs.declared.share.ShareResp.{ShareResp}
 use Rattle.dap_tasks.specs.Task.{PlainTask}
 use Rattle.lane_records.specs.declared.batch.Answered.{Answered}
 use Rattle.lane_records.specs.declared.closed.Closed.{Closed}
+use Rattle.lane_records.specs.declared.format.Format.{Format}
 use Rattle.lane_records.specs.declared.record.Record.{Record}
 use Rattle.lane_records.specs.declared.record.Record.TheVariants.{LeaderTask, Ask, LeaderAnswer, HelperAnswer, LeaderClose, HelperClose}
 use Rattle.lane_records.specs.declared.stored.StoredTask.{StoredTask}
@@ -61,6 +63,19 @@ whole a b = record {
   verify = a.verify;
   leader = a.keys;
   helper = b.keys;
+}
+
+-- a task as a node's front stores it in a format, with that node's keys
+abbrev pub stored_with : Format → SealKeys → PlainTask → StoredTask
+stored_with f keys t = record {
+  format = f;
+  name = t.name;
+  kind = t.kind;
+  min = t.min;
+  precision = t.precision;
+  expires = t.expires;
+  verify = t.verify;
+  keys = keys;
 }
 
 -- the whole task, where both are there

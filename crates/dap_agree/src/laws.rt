@@ -1,12 +1,14 @@
 //! Laws of agreement. Lists of records have the newest first.
 
-ghost use Rattle.std.specs.Prelude.{◌≡◌, ◌↔◌, ℕ, ◌≤◌, List, ◌∷◌, ◌++◌, Option, Some};
+ghost use Rattle.std.specs.Prelude.{◌≡◌, ◌↔◌, ℕ, ◌+◌, ◌*◌, ◌<◌, ◌≤◌, List, ◌∷◌, ◌++◌, Option, Some};
 ghost use Rattle.vdaf_api.specs.Functions.{Functions};
 ghost use Rattle.vdaf_api.specs.Kind.{IsKind};
 ghost use Rattle.vdaf_api.specs.Promises.{FunctionLaws};
 ghost use Rattle.vdaf_api.specs.Vectors.{IsOut};
 ghost use Rattle.vdaf_api.specs.declared.kind.Kind.{Kind};
+ghost use Rattle.dap_bytes.specs.declared.node.Node.{Node};
 ghost use Rattle.dap_bytes.specs.declared.node.Node.TheVariants.{Leader, Helper};
+ghost use Rattle.dap_bytes.specs.declared.part.Part.{Part};
 ghost use Rattle.dap_bytes.specs.declared.part.Part.TheVariants.{Front, Lane};
 ghost use Rattle.dap_bytes.specs.declared.span.Span.{Span};
 ghost use Rattle.dap_messages.specs.declared.message.Message.{Message};
@@ -20,8 +22,8 @@ ghost use Rattle.legal_journals.specs.History.{Mem, opens};
 ghost use Rattle.legal_journals.specs.Legal.{IsLegal};
 ghost use Rattle.legal_journals.specs.Told.{AreTold, leader_told, helper_told, numbers_of};
 ghost use Rattle.dap_agree.specs.Agree.{Fronts, LeaderAgrees, HelperAgrees, LanesFit, LanesAgree};
-ghost use Rattle.dap_agree.specs.First.{IsFirstLacking};
-ghost use Rattle.dap_agree.specs.Fronts.{Journals, AllLegal, AllAgree, FrontFits, HelperFrontFits, fronts_of, held, fresh};
+ghost use Rattle.dap_agree.specs.First.{IsFirstLacking, IsPart, disk_of};
+ghost use Rattle.dap_agree.specs.Fronts.{Journals, AllLegal, AllAgree, FrontFits, HelperFrontFits, fronts_of, held, fresh, stored_with, whole};
 ghost use Rattle.dap_agree.specs.Growth.{Grow, SameTasks, Later};
 ghost use Rattle.dap_agree.specs.Lists.{Sub};
 ghost use Rattle.dap_agree.specs.Outcomes.{AllTold, AreOutcomes, commits_of, AreCommits, AreNumbers, lane_numbers, AreAccepts, SameNumbers};
@@ -96,6 +98,25 @@ pub fn counterparts_stay_where_journals_grow()
 pub fn one_record_is_the_first_without_its_counterpart()
     ensures { (f : Kind → Functions) (js : Journals) (here there : Option (ℕ × ℕ)) →
         IsFirstLacking f js here → IsFirstLacking f js there → here ≡ there }
+{}
+
+/// A law: the disks of all parts are counted from 0: those of the leader before those of the helper, of a node that of
+/// its front first, and those of its lanes in their order.
+pub fn disks_are_in_the_order_of_their_parts()
+    ensures leader_first { (lanes : ℕ) (part other : Part) → IsPart lanes part →
+        disk_of lanes Leader part < disk_of lanes Helper other }
+    ensures front_first { (lanes lane : ℕ) (node : Node) →
+        disk_of lanes node Front < disk_of lanes node (Lane lane) }
+    ensures lanes_ascend { (lanes lane later : ℕ) (node : Node) → lane < later →
+        disk_of lanes node (Lane lane) < disk_of lanes node (Lane later) }
+    ensures within { (lanes : ℕ) (node : Node) (part : Part) → IsPart lanes part →
+        disk_of lanes node part < 2 * lanes + 2 }
+{}
+
+/// A law: a task that both fronts store, each with its own node's keys, is whole again.
+pub fn a_task_of_both_fronts_is_whole()
+    ensures { (t : PlainTask) (format other : Format) →
+        whole (stored_with format t.leader t) (stored_with other t.helper t) ≡ t }
 {}
 
 /// A law: fresh journals are legal and agree.
