@@ -1,0 +1,16 @@
+pub mod Allowed
+pub mod Calls
+pub mod Entered
+pub mod Items
+pub mod Judging
+pub mod Keeping
+pub mod Lookups
+pub mod Members
+pub mod Moves
+pub mod Opens
+pub mod Prepared
+pub mod Quiet
+pub mod Ready
+pub mod Requests
+pub mod Rests
+pub mod Suited

@@ -1,0 +1,13 @@
+pub mod Input
+pub mod Judged
+pub mod Known
+pub mod Lane
+pub mod Own
+pub mod Ready
+pub mod Refusals
+pub mod Replies
+pub mod Reply
+pub mod Starts
+pub mod Suits
+pub mod Takes
+pub mod Work
